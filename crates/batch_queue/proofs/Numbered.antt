@@ -1,15 +1,9 @@
 -- Numbered inserts: one more, and those of an id taken out or put together.
-use Rattle.std.proofs.Common.{◌≡◌, ℕ, suc, ◌≤◌, ◌<◌, ◌||◌, Bool, true, false, not, cond, List, [], ◌∷◌, ◌++◌, filter, take, ◌+◌, refl, sym, ap, ◌∙◌, subst, arith}
-use Rattle.batch_queue.proofs.Words.{nat_cmp, match_ordering, is_eq, Ordering, Less, Equal, Greater, nat_cmp_is, values_of, remove_entry, insert_entry, is_at, list_any, append_assoc, EventId, same_id, Insert, same_id-true, same_id-refl, IsNumbered, with_id, without, with_all}
-
-less : (m n : ℕ) → m < n → nat_cmp m n ≡ Less
-less m n lt = sym (nat_cmp_is m n Less lt)
+use Rattle.std.proofs.Common.{◌≡◌, ℕ, suc, ◌<◌, ◌≤◌, ◌||◌, Bool, true, false, not, cond, List, [], ◌∷◌, ◌++◌, filter, take, ◌+◌, refl, sym, ap, ◌∙◌, arith}
+use Rattle.batch_queue.proofs.Words.{nat_cmp, match_ordering, is_eq, Ordering, Equal, Greater, nat_cmp_is, values_of, remove_entry, insert_entry, is_at, list_any, append_assoc, EventId, same_id, Insert, same_id-true, IsNumbered, with_id, without, with_all}
 
 equal : (n : ℕ) → nat_cmp n n ≡ Equal
 equal n = sym (nat_cmp_is n n Equal refl)
-
-greater : (m n : ℕ) → n < m → nat_cmp m n ≡ Greater
-greater m n lt = sym (nat_cmp_is m n Greater lt)
 
 -- ---- the numbers
 
@@ -24,11 +18,7 @@ weaken low lower next (e ∷ es) le h = (let k = h.0 in omega arith, h.1)
 
 pub filtered : (p : ℕ × Insert → Bool) (low next : ℕ) (es : List (ℕ × Insert)) → IsNumbered low next es → IsNumbered low next (filter p es)
 filtered p low next [] h = h
-filtered p low next (e ∷ es) h = go (p e) (filtered p (suc e.0) next es h.1)
-  where
-    go : (b : Bool) → IsNumbered (suc e.0) next (filter p es) → IsNumbered low next (cond b (e ∷ filter p es) (filter p es))
-    go true r = (h.0, r)
-    go false r = weaken (suc e.0) low next (filter p es) (let k = h.0 in omega arith) r
+filtered p low next (e ∷ es) h = grind (arith, weaken, filtered p (suc e.0) next es h.1)
 
 pub pushed : (low next : ℕ) (es : List (ℕ × Insert)) (x : Insert) → IsNumbered low next es → IsNumbered low (suc next) (es ++ (next, x) ∷ [])
 pushed low next [] x h = (h, omega arith)
@@ -38,18 +28,17 @@ pushed low next (e ∷ es) x h = (h.0, pushed (suc e.0) next es x h.1)
 
 pub insert_last : (low next : ℕ) (es : List (ℕ × Insert)) (x : Insert) → IsNumbered low next es → insert_entry nat_cmp es next x ≡ es ++ (next, x) ∷ []
 insert_last low next [] x h = refl
-insert_last low next (e ∷ es) x h =
-    let later = greater next e.0 (let k = low_le (suc e.0) next es h.1 in omega arith) in
-    ap (λ (o : Ordering). match_ordering o ((next, x) ∷ e ∷ es) ((e.0, x) ∷ es) (e ∷ insert_entry nat_cmp es next x)) later ∙ ap (λ (r : List (ℕ × Insert)). e ∷ r) (insert_last (suc e.0) next es x h.1)
+insert_last low next (e ∷ es) x h = grind (arith, low_le, insert_last (suc e.0) next es x h.1)
 
 -- and taken out again
 pub remove_last : (low next : ℕ) (es : List (ℕ × Insert)) (x : Insert) → IsNumbered low next es → remove_entry (is_at (nat_cmp next)) (es ++ (next, x) ∷ []) ≡ es
 remove_last low next [] x h = ap (λ (o : Ordering). cond (is_eq o) [] ((next, x) ∷ [])) (equal next)
-remove_last low next (e ∷ es) x h =
-    let later = greater next e.0 (let k = low_le (suc e.0) next es h.1 in omega arith) in
-    ap (λ (o : Ordering). cond (is_eq o) (es ++ (next, x) ∷ []) (e ∷ remove_entry (is_at (nat_cmp next)) (es ++ (next, x) ∷ []))) later ∙ ap (λ (r : List (ℕ × Insert)). e ∷ r) (remove_last (suc e.0) next es x h.1)
+remove_last low next (e ∷ es) x h = grind (arith, low_le, remove_last (suc e.0) next es x h.1)
 
 -- ---- those that pass a test, taken out
+
+greater : (m n : ℕ) → n < m → nat_cmp m n ≡ Greater
+greater m n lt = sym (nat_cmp_is m n Greater lt)
 
 without_first : (e : ℕ × Insert) (es gone : List (ℕ × Insert)) (next : ℕ) → IsNumbered (suc e.0) next gone → without gone (e ∷ es) ≡ e ∷ without gone es
 without_first e es [] next h = refl
@@ -78,9 +67,7 @@ all_first e es (g ∷ more) next h =
 
 insert_first : (e : ℕ × Insert) (es : List (ℕ × Insert)) (next : ℕ) → IsNumbered (suc e.0) next es → insert_entry nat_cmp es e.0 e.1 ≡ e ∷ es
 insert_first e [] next h = refl
-insert_first e (g ∷ es) next h =
-    let first = less e.0 g.0 (let k = h.0 in omega arith) in
-    ap (λ (o : Ordering). match_ordering o (e ∷ g ∷ es) ((g.0, e.1) ∷ es) (g ∷ insert_entry nat_cmp es e.0 e.1)) first
+insert_first e (g ∷ es) next h = grind arith
 
 insert_same : (e : ℕ × Insert) (es : List (ℕ × Insert)) → insert_entry nat_cmp (e ∷ es) e.0 e.1 ≡ e ∷ es
 insert_same e es = ap (λ (o : Ordering). match_ordering o (e ∷ e ∷ es) (e ∷ es) (e ∷ insert_entry nat_cmp es e.0 e.1)) (equal e.0)
@@ -96,10 +83,7 @@ all_filter p q low next (e ∷ es) h = go (p e) (q e) (all_filter p q (suc e.0) 
     both = filter (λ e. p e || q e) es
 
     go : (a b : Bool) → with_all (filter p es) (filter q es) ≡ both → with_all (cond a (e ∷ filter p es) (filter p es)) (cond b (e ∷ filter q es) (filter q es)) ≡ cond (a || b) (e ∷ both) both
-    go true true r = ap (with_all (filter p es)) (insert_same e (filter q es)) ∙ all_first e (filter q es) (filter p es) next (later p) ∙ ap (λ (xs : List (ℕ × Insert)). e ∷ xs) r
-    go true false r = ap (with_all (filter p es)) (insert_first e (filter q es) next (later q)) ∙ all_first e (filter q es) (filter p es) next (later p) ∙ ap (λ (xs : List (ℕ × Insert)). e ∷ xs) r
-    go false true r = all_first e (filter q es) (filter p es) next (later p) ∙ ap (λ (xs : List (ℕ × Insert)). e ∷ xs) r
-    go false false r = r
+    go a b r = grind (arith, insert_same, all_first, later, insert_first)
 
 -- those of ids, put together id by id
 abbrev pub picked : List (ℕ × Insert) → List EventId → List (ℕ × Insert) → List (ℕ × Insert)
@@ -107,19 +91,10 @@ picked all [] es = es
 picked all (i ∷ ids) es = picked all ids (with_all (with_id i all) es)
 
 or_turned : (a b c : Bool) → (a || (b || c)) ≡ ((b || a) || c)
-or_turned true true c = refl
-or_turned true false c = refl
-or_turned false true c = refl
-or_turned false false c = refl
+or_turned a b c = grind arith
 
 pub same_id-flip : (i j : EventId) → same_id i j ≡ same_id j i
-same_id-flip i j = go (same_id i j) (same_id j i) refl refl
-  where
-    go : (a b : Bool) → same_id i j ≡ a → same_id j i ≡ b → a ≡ b
-    go true true e f = refl
-    go false false e f = refl
-    go true false e f = sym (subst (λ (k : EventId). same_id k i ≡ true) (same_id-true i j e) (same_id-refl i)) ∙ f
-    go false true e f = sym e ∙ subst (λ (k : EventId). same_id k j ≡ true) (same_id-true j i f) (same_id-refl j)
+same_id-flip i j = grind arith
 
 picked_or : (all : List (ℕ × Insert)) (next : ℕ) (ids : List EventId) (q : ℕ × Insert → Bool) → IsNumbered 0 next all → picked all ids (filter q all) ≡ filter (λ e. list_any (same_id e.1.id) ids || q e) all
 picked_or all next [] q h = refl
@@ -128,8 +103,7 @@ picked_or all next (i ∷ ids) q h =
     ∙ λ k. filter (λ e. (or_turned (list_any (same_id e.1.id) ids) (same_id i e.1.id) (q e) ∙ ap (λ s. (s || list_any (same_id e.1.id) ids) || q e) (same_id-flip i e.1.id)) k) all
 
 or_none : (b : Bool) → (b || false) ≡ b
-or_none true = refl
-or_none false = refl
+or_none b = grind arith
 
 filter_none : (es : List (ℕ × Insert)) → [] ≡ filter (λ e. false) es
 filter_none [] = refl
@@ -143,20 +117,11 @@ picked_is all next ids h =
 
 pub with_id-push : (i : EventId) (es : List (ℕ × Insert)) (e : ℕ × Insert) → with_id i (es ++ e ∷ []) ≡ with_id i es ++ with_id i (e ∷ [])
 with_id-push i [] e = refl
-with_id-push i (x ∷ es) e = go (same_id i x.1.id) (with_id-push i es e)
-  where
-    go : (b : Bool) → with_id i (es ++ e ∷ []) ≡ with_id i es ++ with_id i (e ∷ [])
-        → cond b (x ∷ with_id i (es ++ e ∷ [])) (with_id i (es ++ e ∷ [])) ≡ cond b (x ∷ with_id i es) (with_id i es) ++ with_id i (e ∷ [])
-    go true r = ap (λ (xs : List (ℕ × Insert)). x ∷ xs) r
-    go false r = r
+with_id-push i (x ∷ es) e = grind (arith, with_id-push i es e)
 
 -- where those of one id are gone, none of it is left, and all of each other id
 pub with_id-less : (j i : EventId) (es : List (ℕ × Insert)) → with_id i (filter (λ e. not (same_id j e.1.id)) es) ≡ cond (same_id j i) [] (with_id i es)
-with_id-less j i [] = none (same_id j i) []
-  where
-    none : (b : Bool) (es : List (ℕ × Insert)) → es ≡ cond b es es
-    none true es = refl
-    none false es = refl
+with_id-less j i [] = grind arith
 with_id-less j i (e ∷ es) = go (same_id i e.1.id) (same_id j e.1.id) refl refl (with_id-less j i es)
   where
     left : List (ℕ × Insert)
@@ -176,11 +141,7 @@ with_id-less j i (e ∷ es) = go (same_id i e.1.id) (same_id j e.1.id) refl refl
 -- where there are none, all are left
 pub none_gone : (i : EventId) (es : List (ℕ × Insert)) → [] ≡ with_id i es → filter (λ e. not (same_id i e.1.id)) es ≡ es
 none_gone i [] h = refl
-none_gone i (e ∷ es) h = go (same_id i e.1.id) h (none_gone i es)
-  where
-    go : (b : Bool) → [] ≡ cond b (e ∷ with_id i es) (with_id i es) → ([] ≡ with_id i es → filter (λ e. not (same_id i e.1.id)) es ≡ es) → cond (not b) (e ∷ filter (λ e. not (same_id i e.1.id)) es) (filter (λ e. not (same_id i e.1.id)) es) ≡ e ∷ es
-    go true k r = absurd (cc k)
-    go false k r = ap (λ (xs : List (ℕ × Insert)). e ∷ xs) (r k)
+none_gone i (e ∷ es) h = grind (arith, none_gone i es)
 
 -- ---- without the numbers
 
@@ -190,11 +151,7 @@ values-push (x ∷ es) e = ap (λ (xs : List Insert). x.1 ∷ xs) (values-push e
 
 pub values-filter : (p : Insert → Bool) (es : List (ℕ × Insert)) → values_of (filter (λ e. p e.1) es) ≡ filter p (values_of es)
 values-filter p [] = refl
-values-filter p (e ∷ es) = go (p e.1) (values-filter p es)
-  where
-    go : (b : Bool) → values_of (filter (λ e. p e.1) es) ≡ filter p (values_of es) → values_of (cond b (e ∷ filter (λ e. p e.1) es) (filter (λ e. p e.1) es)) ≡ cond b (e.1 ∷ filter p (values_of es)) (filter p (values_of es))
-    go true r = ap (λ (xs : List Insert). e.1 ∷ xs) r
-    go false r = r
+values-filter p (e ∷ es) = grind (arith, values-filter p es)
 
 -- one more of the first is copied
 pub front_turn : (xs whole : List Insert) (n left : ℕ) (es rest : List (ℕ × Insert)) (e : ℕ × Insert) → es ≡ e ∷ rest → left + 1 ≡ n → xs ++ take n (values_of es) ≡ whole

@@ -1,41 +1,20 @@
 -- Lists of waiting inserts: tokens, one more, fewer.
-use Rattle.std.proofs.Common.{◌≡◌, ◌<◌, Bool, true, false, not, cond, filter, List, [], ◌∷◌, ◌++◌, ◌||◌, ◌&&◌, map, arith, refl, sym, ap, ◌∙◌, subst}
-use Rattle.std.specs.Prelude.{Option, Some, None}
-use Rattle.batch_queue.proofs.Words.{AllByRecursion, cond-true, cond-false, true≢false, IsDistinct-head, IsDistinct-tail, IsDistinct-cons, Token, Insert, same_token, same_token-true, same_token-refl, has_token, with_last, IsOnce, room_beside}
+use Rattle.std.proofs.Common.{◌≡◌, Bool, true, false, not, cond, filter, List, [], ◌∷◌, ◌++◌, ◌||◌, ◌&&◌, map, arith, refl, sym, ◌∙◌, subst}
+use Rattle.batch_queue.proofs.Words.{AllByRecursion, IsDistinct-head, IsDistinct-tail, IsDistinct-cons, Token, Insert, same_token, same_token-true, has_token, IsOnce}
 
 -- ---- tokens
 
 pub same_token-flip : (a b : Token) → same_token a b ≡ same_token b a
-same_token-flip a b = go (same_token a b) (same_token b a) refl refl
-  where
-    go : (s t : Bool) → same_token a b ≡ s → same_token b a ≡ t → s ≡ t
-    go true true e f = refl
-    go false false e f = refl
-    go true false e f = sym (subst (λ (c : Token). same_token c a ≡ true) (same_token-true a b e) (same_token-refl a)) ∙ f
-    go false true e f = sym e ∙ subst (λ (c : Token). same_token c b ≡ true) (same_token-true b a f) (same_token-refl b)
+same_token-flip a b = grind arith
 
 pub tokens_push : (xs : List Insert) (x : Insert) (t : Token) → has_token (xs ++ x ∷ []) t ≡ cond (same_token x.token t) true (has_token xs t)
-tokens_push [] x t = go (same_token t x.token) ∙ ap (λ b. cond b true false) (same_token-flip t x.token)
-  where
-    go : (b : Bool) → (b || false) ≡ cond b true false
-    go true = refl
-    go false = refl
-tokens_push (y ∷ xs) x t = ap (λ b. same_token t y.token || b) (tokens_push xs x t) ∙ go (same_token t y.token) (same_token x.token t)
-  where
-    go : (a b : Bool) → (a || cond b true (has_token xs t)) ≡ cond b true (a || has_token xs t)
-    go true true = refl
-    go true false = refl
-    go false b = refl
+tokens_push [] x t = grind arith
+tokens_push (y ∷ xs) x t = grind (arith, tokens_push xs x t)
 
 -- without a token in all there is none in a part
 part_none : (p : Insert → Bool) (xs : List Insert) (t : Token) → has_token xs t ≡ false → has_token (filter p xs) t ≡ false
 part_none p [] t h = refl
-part_none p (x ∷ xs) t h = go (p x) (same_token t x.token) refl h (part_none p xs t)
-  where
-    go : (b s : Bool) → same_token t x.token ≡ s → (s || has_token xs t) ≡ false → (has_token xs t ≡ false → has_token (filter p xs) t ≡ false) → has_token (cond b (x ∷ filter p xs) (filter p xs)) t ≡ false
-    go b true e k r = absurd (true≢false k)
-    go true false e k r = ap (λ s. s || has_token (filter p xs) t) e ∙ r k
-    go false false e k r = r k
+part_none p (x ∷ xs) t h = grind (arith, part_none p xs t)
 
 none_from_apart : (xs : List Insert) (t : Token) → AllByRecursion (λ u. same_token t u ≡ false) (map (λ (x : Insert). x.token) xs) → has_token xs t ≡ false
 none_from_apart [] t h = refl
@@ -62,20 +41,13 @@ tokens_left p (x ∷ xs) t once = go (p x) (same_token t x.token) refl (tokens_l
 
     go : (b s : Bool) → same_token t x.token ≡ s → (all && not gone) ≡ left
         → ((same_token t x.token || all) && not (has_token (cond b (x ∷ filter p xs) (filter p xs)) t)) ≡ has_token (cond (not b) (x ∷ filter (λ x. not (p x)) xs) (filter (λ x. not (p x)) xs)) t
-    go true true e r = ap (λ s. (s || all) && not (s || gone)) e ∙ sym (part_none (λ x. not (p x)) xs t (rest_none x xs t once e))
-    go true false e r = ap (λ s. (s || all) && not (s || gone)) e ∙ r
-    go false true e r = ap (λ s. (s || all) && not gone) e ∙ ap (λ g. not g) (part_none p xs t (rest_none x xs t once e)) ∙ sym (ap (λ s. s || left) e)
-    go false false e r = ap (λ s. (s || all) && not gone) e ∙ r ∙ sym (ap (λ s. s || left) e)
+    go b s e r = grind (arith, part_none, rest_none)
 
 -- ---- no token twice
 
 part_apart : (p : Insert → Bool) (xs : List Insert) (t : Token) → AllByRecursion (λ u. same_token t u ≡ false) (map (λ (x : Insert). x.token) xs) → AllByRecursion (λ u. same_token t u ≡ false) (map (λ (x : Insert). x.token) (filter p xs))
 part_apart p [] t h = h
-part_apart p (x ∷ xs) t h = go (p x) (part_apart p xs t h.1)
-  where
-    go : (b : Bool) → AllByRecursion (λ u. same_token t u ≡ false) (map (λ (x : Insert). x.token) (filter p xs)) → AllByRecursion (λ u. same_token t u ≡ false) (map (λ (x : Insert). x.token) (cond b (x ∷ filter p xs) (filter p xs)))
-    go true r = (h.0, r)
-    go false r = r
+part_apart p (x ∷ xs) t h = grind (arith, part_apart p xs t h.1)
 
 pub once_part : (p : Insert → Bool) (xs : List Insert) → IsOnce xs → IsOnce (filter p xs)
 once_part p [] once = once
@@ -87,8 +59,7 @@ once_part p (x ∷ xs) once = go (p x) (once_part p xs (IsDistinct-tail same_tok
 
 -- the parts of a test
 neither : (a b : Bool) → (a || b) ≡ false → (a ≡ false) × (b ≡ false)
-neither true b h = absurd (true≢false h)
-neither false b h = (refl, h)
+neither a b h = grind arith
 
 apart_push : (xs : List Insert) (x : Insert) (t : Token) → AllByRecursion (λ u. same_token t u ≡ false) (map (λ (y : Insert). y.token) xs) → same_token t x.token ≡ false
     → AllByRecursion (λ u. same_token t u ≡ false) (map (λ (y : Insert). y.token) (xs ++ x ∷ []))

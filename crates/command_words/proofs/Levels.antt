@@ -1,16 +1,14 @@
 -- The five commands, as a parse finds them.
-use Rattle.std.proofs.Common.{◌≡◌, ◌∙◌, ◌&&◌, Bool, true, false, List, [], ◌∷◌, ◌++◌, append_assoc, Option, Some, is_some, option_map, refl, sym, ap, ap₂, subst}
+use Rattle.std.proofs.Common.{◌≡◌, ◌∙◌, ◌&&◌, Bool, true, List, [], ◌∷◌, ◌++◌, append_assoc, Some, refl, sym, ap, ap₂, subst, arith}
 use Rattle.std.specs.Prelude.{find, fold}
-use Rattle.std.specs.List.{AllByRecursion, list_all}
-use Rattle.std.specs.Option.{option_map_or}
-use Rattle.clap.specs.Walk.{Held, Row, Rule, Walk, answers_to, nothing_held, stop_after, walk, walk_from, walked}
-use Rattle.clap.specs.Simple.{Shape, built, built_leaf, entered, inherited, label_of, marked_built, names_of, rows_at, subcommand_of, with_leaf_noted}
-use Rattle.clap.specs.Takes.{default_passes, entered_passes, level_passes, settle_passes, takes, turn_passes, walk_passes}
+use Rattle.clap.specs.Walk.{Walk, answers_to, nothing_held, walk, walk_from, walked}
+use Rattle.clap.specs.Simple.{Shape, built, built_leaf, inherited, label_of, marked_built, names_of, subcommand_of, with_leaf_noted}
+use Rattle.clap.specs.Takes.{level_passes, takes, turn_passes, walk_passes}
 use Rattle.std.proofs.lemmas.List.{append-nil}
 use Rattle.command_words.specs.Words.{Command, Pairs, Text, IsPlain, bulk, drill, join, name_of, options_of, pair_words, reshard, verify}
 use Rattle.command_words.specs.Clap.{photon_app, shape_of_command}
-use Rattle.command_words.proofs.Walks.{AllKnown, IsReady, Takes, level_takes, pair_rows}
-use Rattle.command_words.proofs.Tables.{all_fit, all_known, all_pass, filled_rules, full_rules, no_defaults}
+use Rattle.command_words.proofs.Walks.{IsReady, Takes, level_takes, pair_rows}
+use Rattle.command_words.proofs.Tables.{all_fit}
 
 -- a command, built
 abbrev pub sub : Command → Shape
@@ -31,20 +29,7 @@ fit bulk = refl
 fit reshard = refl
 
 pub ready : (c : Command) → IsReady (sub c) (options_of c)
-ready c =
-    let options = options_of c in
-    let rules : (sub c).rules ≡ full_rules options = filled_rules options in
-    record {
-      rules = rules;
-      known = subst (λ (rs : List Rule). AllKnown rs options) (sym rules) (all_known [] options (fit c));
-      free = subst (λ (rs : List Rule). list_all (λ (a : Rule). a.is_free) rs ≡ true) (sym rules) (all_pass (λ (a : Rule). a.is_free) (λ o. refl) refl options);
-      defaults = subst (λ (rs : List Rule). list_all default_passes rs ≡ true) (sym rules) (all_pass default_passes (λ o. refl) refl options);
-      none = subst (λ (rs : List Rule). AllByRecursion (λ (a : Rule). a.defaults ≡ []) rs) (sym rules) (no_defaults options);
-      once = refl;
-      no_help = refl;
-      no_sub = refl;
-      negates = refl;
-    }
+ready c = grind arith
 
 -- ---- the words before the options
 
@@ -88,8 +73,7 @@ unfolding walk_passes
 passes_is c rest = ap₂ (λ (a b : Bool). a && b) (name_passes c) (ap (λ (w : Walk). walk_passes (built photon_app).top (names_of (built photon_app)) w rest) (name_enters c) ∙ rest_passes (name_of c) [] rest)
 
 top_passes : (c : Command) (rest : List Text) → level_passes (built photon_app).top (names_of (built photon_app)) nothing_held (name_of c ∷ rest) true ≡ true
-top_passes c rest = ap₂ (λ (a b : Bool). a && b) (passes_is c rest)
-    (ap (λ (h : Held). settle_passes (built photon_app).top.rules false h && true) (ap (λ (w : Walk). w.held) (walk_is c rest)))
+top_passes c rest = grind (arith, passes_is, walk_is)
 
 -- what plain words give
 pub record Gives (words : List Text) (c : Command) (pairs : Pairs) : Type 0 where
@@ -97,20 +81,7 @@ pub record Gives (words : List Text) (c : Command) (pairs : Pairs) : Type 0 wher
   pub found : subcommand_of photon_app words ≡ Some (name_of c, pair_rows pairs)
 
 gives : (program : Text) (c : Command) (pairs : Pairs) → Takes (sub c) pairs → Gives (program ∷ name_of c ∷ pair_words pairs) c pairs
-gives program c pairs level =
-    let rest : List Text = pair_words pairs in
-    let stop_is : stop_after (built photon_app).top.rules (names_of (built photon_app)) (name_of c ∷ rest) ≡ Some (name_of c, rest) = ap (λ (w : Walk). w.stopped) (walk_is c rest) in
-    let entered_is : entered (built photon_app) (Some (name_of c, rest)) ≡ Some (name_of c, pair_rows pairs)
-    = ap (option_map (λ (s : Shape). rows_at s rest)) (sub_found c) ∙ ap (λ (rows : List Row). Some ((sub c).name, rows)) level.rows in
-    let entered_ok : entered_passes (built photon_app) (Some (name_of c, rest)) ≡ true
-    = ap (λ (o : Option Shape). option_map_or (λ (s : Shape). level_passes s [] nothing_held rest false) o true) (sub_found c) ∙ level.passes in
-    record {
-      taken = ap (λ (stop : Option (Text × List Text)). entered_passes (built photon_app) stop
-          && level_passes (built photon_app).top (names_of (built photon_app)) nothing_held (name_of c ∷ rest) (is_some (entered (built photon_app) stop))) stop_is
-          ∙ ap₂ (λ (a b : Bool). a && b) entered_ok
-          (ap (λ (o : Option (Text × List Row)). level_passes (built photon_app).top (names_of (built photon_app)) nothing_held (name_of c ∷ rest) (is_some o)) entered_is ∙ top_passes c rest);
-      found = ap (entered (built photon_app)) stop_is ∙ entered_is;
-    }
+gives program c pairs level = grind (arith, walk_is, sub_found, top_passes)
 
 pub plain_gives : (words : List Text) (c : Command) (pairs : Pairs) → IsPlain words c pairs → Gives words c pairs
 plain_gives words c pairs plain =

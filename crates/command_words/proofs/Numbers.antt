@@ -1,17 +1,21 @@
 -- Numbers as they are read.
-use Rattle.std.proofs.Common.{◌≡◌, ◌∙◌, ◌==◌, ◌≤◌, ℕ, Bool, false, cond, [], ◌∷◌, drop, Option, Some, None, Result, Ok, Err, refl, sym, ap, subst, arith}
+use Rattle.std.proofs.lemmas.Str.Parse.{digit_from_value}
+use Rattle.std.proofs.lemmas.Bool.{ne_eqb}
+use Rattle.std.proofs.Common.{◌≡◌, ◌∙◌, ◌≤◌, ℕ, Option, Some, None, Result, Ok, Err, refl, sym, ap, subst, arith, ◌==◌, Bool, false, cond, [], ◌∷◌, drop}
 use Rattle.std.specs.Prelude.{IsSomeAnd, option_map, unwrap_or}
 use Rattle.std.specs.Borrow.{Bor}
-use Rattle.std.proofs.lemmas.Bool.{ne_eqb}
-use Rattle.std.proofs.lemmas.Str.Parse.{digit_from_value}
 use Rattle.std.specs.Option.{option_map_or, option_or}
-use Rattle.std.specs.Str.Parse.{AllDigits, ParsesUnsigned, digits_value, without_leading_plus}
+use Rattle.std.specs.Str.Parse.{ParsesUnsigned, digits_value, without_leading_plus, AllDigits}
 use Rattle.clap.specs.Matches.{TriesOne, one_text}
 use Rattle.clap.specs.Values.{IsUnsignedIn}
 use Rattle.clap.specs.Walk.{one_of, rows_of}
 use Rattle.clap.specs.declared.parser.matches.Found.{Found}
 use Rattle.clap.proofs.WalkLemmas.{one_text-rows}
 use Rattle.command_words.specs.Words.{Text}
+
+-- the number of a text that may be there
+abbrev pub written : Option Text → ℕ
+written o = option_map_or (λ t. digits_value 10 (without_leading_plus t)) o 0
 
 -- digits have no plus before them
 pub no_plus : (ds : Text) → AllDigits 10 ds → without_leading_plus ds ≡ ds
@@ -20,18 +24,9 @@ no_plus (d ∷ ds) h =
     let plus : (d == 43) ≡ false = ne_eqb _ _ (λ e. omega (arith, digit_from_value d h.0)) in
     ap (λ (b : Bool). drop (cond b 1 0) (d ∷ ds)) plus
 
--- the number of a text that may be there
-abbrev pub written : Option Text → ℕ
-written o = option_map_or (λ t. digits_value 10 (without_leading_plus t)) o 0
-
 -- the text of an option as written, or else its default
 pub or_default : (g d o : Option (Bor Text)) (r e : Bor Text) → r ≡ unwrap_or o e → o ≡ option_or g d → r.now ≡ unwrap_or (option_or (option_map (λ t. t.now) g) (option_map (λ t. t.now) d)) e.now
-or_default g d o r e is same = ap (λ (s : Bor Text). s.now) (is ∙ ap (λ (x : Option (Bor Text)). unwrap_or x e) same) ∙ go g d
-  where
-    go : (g d : Option (Bor Text)) → (unwrap_or (option_or g d) e).now ≡ unwrap_or (option_or (option_map (λ t. t.now) g) (option_map (λ t. t.now) d)) e.now
-    go None None = refl
-    go None (Some t) = refl
-    go (Some t) d = refl
+or_default g d o r e is same = grind arith
 
 -- the value of an option that is not there is its default, if it has one
 pub its_default : (o : Option Text) (d : Option (Bor Text)) (t : Bor Text) → o ≡ None → d ≡ Some t → option_or o (option_map (λ t. t.now) d) ≡ Some t.now
@@ -76,5 +71,4 @@ module _ {E : Type 0} (G : Text → Result ℕ E → Type 0) (only : (t : Text) 
   default_failed t low high e r g is h = only t (Err e) (subst (G t) is g) (h.0, h.1)
 
 pub number_within : (o : Option Text) (low high : ℕ) → IsSomeAnd o (IsUnsignedIn low high) → (low ≤ written o) × (written o ≤ high)
-number_within None low high h = absurd h
-number_within (Some t) low high h = (h.2, h.3)
+number_within o low high h = grind arith

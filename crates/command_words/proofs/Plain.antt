@@ -1,27 +1,22 @@
 -- What plain words ask for, as the parse finds it.
-use Rattle.std.proofs.Common.{◌≡◌, inl, inr, Option, refl, sym, subst}
+use Rattle.std.proofs.Common.{◌≡◌, Option, subst, arith}
 use Rattle.clap.specs.Values.{kind_of}
-use Rattle.clap.specs.Kinds.{HasKind, IsAmong, Kinds}
+use Rattle.clap.specs.Kinds.{HasKind, Kinds}
 use Rattle.clap.specs.declared.error.Error.{Error}
 use Rattle.clap.specs.declared.error.kind.ErrorKind.TheVariants.{OutOfMemory}
 use Rattle.command_words.specs.Words.{Command, IsFaultOf, IsFound, IsRefusedBy, Pairs, Text, Wish, given, name_of}
 use Rattle.command_words.specs.Clap.{number_in, text_in}
 use Rattle.command_words.specs.declared.asked.WordsFault.{WordsFault}
-use Rattle.command_words.specs.declared.asked.WordsFault.TheVariants.{Memory, Refused}
+use Rattle.command_words.specs.declared.asked.WordsFault.TheVariants.{Memory}
 use Rattle.command_words.proofs.Walks.{first_given, one_given, pair_rows}
 
 -- ---- faults
 
 pub for_memory : (e : Error) (f : WordsFault) → IsFaultOf e f → kind_of e ≡ OutOfMemory → f ≡ Memory
-for_memory e Memory is memory = refl
-for_memory e (Refused x) is memory = absurd (is.1 memory)
+for_memory e f is memory = grind arith
 
 pub by_kinds : (kinds : Kinds) (e : Error) (f : WordsFault) → IsFaultOf e f → HasKind kinds e → IsRefusedBy kinds f
-by_kinds kinds e Memory is has = tt
-by_kinds kinds e (Refused x) is has = elim has [
-  | inl memory ↦ absurd (is.1 memory)
-  | inr among ↦ subst (λ (y : Error). IsAmong (kind_of y) kinds) (sym is.0) among
-]
+by_kinds kinds e f is has = grind arith
 
 -- ---- values
 

@@ -1,42 +1,34 @@
 -- The values of a command that `clap` took.
-use Rattle.std.proofs.Common.{◌≡◌, ◌∙◌, ◌<◌, ◌==◌, ◌++◌, ◌&&◌, ◌||◌, not, inl, inr, ℕ, Bool, true, false, cond, List, [], ◌∷◌, map, length, Option, Some, None, is_some, option_map, refl, true≢false, sym, ap, ap₂, subst, arith}
-use Rattle.std.specs.Prelude.{IfSome, IsSomeAnd, ⊤, find, unwrap_or, option_and_then, slice_get, codes}
-use Rattle.std.specs.List.{AllByRecursion, list_any}
+use Rattle.std.proofs.Common.{◌≡◌, ◌∙◌, ◌<◌, ◌==◌, not, inl, inr, ℕ, Bool, true, false, cond, List, [], ◌∷◌, length, Option, Some, None, is_some, option_map, refl, true≢false, sym, ap, subst, arith}
+use Rattle.std.specs.Prelude.{IfSome, IsSomeAnd, find, option_and_then, slice_get, codes}
+use Rattle.std.specs.List.{AllByRecursion}
 use Rattle.std.specs.Option.{option_map_or, option_or}
 use Rattle.std.specs.Str.{bytes_eq}
 use Rattle.std.proofs.lemmas.Slice.Eq.{bytes_eq-Decides}
-use Rattle.clap.specs.Values.{read_as}
 use Rattle.clap.specs.Facts.{explicit_source, parser_of_value}
 use Rattle.clap.specs.ValueTests.{accepts}
-use Rattle.clap.specs.Kinds.{check_kinds}
-use Rattle.clap.specs.Walk.{Row, Rule, answers_to, arg_by_id, arg_by_index, finished, nothing_held, reading_by, row_text, rows_after, stop_after, walk, walk_from}
+use Rattle.clap.specs.Walk.{Row, Rule, answers_to, arg_by_id, arg_by_index, finished, nothing_held, row_text, rows_after, stop_after, walk, walk_from}
 use Rattle.clap.specs.Simple.{Shape, argument_words, built, entered, filled, help_rule, label_of, names_of, rows_at, subcommand_of}
 use Rattle.clap.specs.Takes.{is_given}
 use Rattle.clap.specs.Faults.{built_fault, check_fault, entered_fault, fault_of, level_fault, walk_fault}
 use Rattle.clap.specs.declared.builder.value_parser.ValueParser.TheVariants as vp
 use Rattle.clap.proofs.ValueTestLemmas.{accepts-Accepts}
 use Rattle.command_words.specs.declared.options.TheConstants.{MOST_CLICKS}
-use Rattle.command_words.specs.Words.{AreInRanges, Command, Given, HaveValues, IsFound, IsInRanges, IsNamed, IsReadable, Opt, Text, Wish, batch, bulk, command_of, count, drill, given_as, is_required, join, joiners, name_of, node_options, nodes_by, options_of, reshard, shards, value_of, verify, wish_by}
+use Rattle.command_words.specs.Words.{AreInRanges, Command, Given, HaveValues, IsFound, IsInRanges, IsNamed, IsReadable, Opt, Text, Wish, bulk, count, drill, given_as, is_required, join, name_of, node_options, nodes_by, options_of, reshard, value_of, verify, wish_by}
 use Rattle.command_words.specs.declared.options.Form.{Form}
 use Rattle.command_words.specs.declared.options.Form.TheVariants.{Number as number, AnyText as any_text, SomeText as some_text}
 use Rattle.command_words.specs.Clap.{number_in, photon_app, text_in}
-use Rattle.command_words.proofs.Walks.{AllKnown, Known, full_rule, reads_as_written}
+use Rattle.command_words.proofs.Walks.{AllKnown, Known, full_rule}
 use Rattle.command_words.proofs.Numbers.{number_within}
 use Rattle.command_words.proofs.Tables.{accepts_as, defaults_fit, full_rules}
 use Rattle.command_words.proofs.Levels.{fit, ready, sub}
 use Rattle.command_words.proofs.Taken.{AreGood, Holds, IsGood, IsOwn, level_holds, or_nil}
-use Rattle.clap.specs.declared.builder.value_parser.Reading.{Reading}
-use Rattle.clap.specs.declared.builder.value_parser.Reading.TheVariants.{AsWritten}
 
 -- ---- the rules of the commands
 
 find_own : (c xs : List Rule) (p : Rule → Bool) (a : Rule) → AllByRecursion (IsOwn c) xs → find p xs ≡ Some a → IsOwn c a
 find_own c [] p a owns e = cc
-find_own c (x ∷ xs) p a owns e = go (p x) e (find_own c xs p a owns.1)
-  where
-    go : (b : Bool) → cond b (Some x) (find p xs) ≡ Some a → (find p xs ≡ Some a → IsOwn c a) → IsOwn c a
-    go true f rest = let same : x ≡ a = cc in subst (IsOwn c) same owns.0
-    go false f rest = rest f
+find_own c (x ∷ xs) p a owns e = grind (arith, find_own c xs p a owns.1)
 
 owns_all : (c : List Rule) (options : List Opt) → AllKnown c options → arg_by_id c (codes "help") ≡ Some (filled help_rule) → AllByRecursion (IsOwn c) (full_rules options)
 owns_all c [] k help = (record { by_id = help; action = inr refl }, tt)
@@ -81,18 +73,9 @@ pub record IsTaken (words : List Text) : Type 0 where
   pub found : subcommand_of photon_app words ≡ Some (name_of command, rows_after (sub command).rules [] rest)
   pub holds : Holds (sub command) rest
 
-second_false : (a b d : Bool) → check_kinds a b d ≡ [] → b ≡ false
-second_false true b d e = cc
-second_false false true d e = cc
-second_false false false d e = refl
-
 -- a command that wants a subcommand was given one
 with_sub : (s : Shape) (rows : List Row) (has : Bool) → s.subcommand_required ≡ true → check_fault s rows has ≡ [] → has ≡ true
-with_sub s rows true wanted e = refl
-with_sub s rows false wanted e =
-    let none : s.subcommand_required ≡ false = second_false (s.arg_required_else_help && not (list_any (λ (r : Row). explicit_source r.source) rows)) s.subcommand_required
-    (not (s.subcommand_negates_reqs && false) && list_any (λ (a : Rule). a.required && not (is_given a.id rows)) s.rules) e in
-    absurd (true≢false (sym wanted ∙ none))
+with_sub s rows has wanted e = grind arith
 
 -- the subcommand at which the walk of the top stopped
 stopped_at : (words : List Text) (stop : Option (Text × List Text)) → stop_after (built photon_app).top.rules (names_of (built photon_app)) words ≡ stop
@@ -124,42 +107,19 @@ taken_of words all is e =
     stopped_at words stop refl two.0 has
 
 pub taken : (words : List Text) → fault_of photon_app words ≡ [] → IsTaken words
-taken words e =
-    let got = taken_of (argument_words photon_app words) words refl e in
-    record { command = got.0; rest = got.1; found = got.2; holds = got.3 }
+taken words e = grind (arith, taken_of)
 
 -- ---- its values
 
 row_at : (c : List Rule) (rows : List Row) (n : Text) → AreGood c rows → IfSome (find (λ (r : Row). bytes_eq r.id n) rows) (λ r. IsGood c r × (r.id ≡ n))
 row_at c [] n g = tt
-row_at c (r ∷ rs) n g = go (bytes_eq r.id n) refl (row_at c rs n g.1)
-  where
-    go : (b : Bool) → bytes_eq r.id n ≡ b → IfSome (find (λ (q : Row). bytes_eq q.id n) rs) (λ q. IsGood c q × (q.id ≡ n))
-        → IfSome (cond b (Some r) (find (λ (q : Row). bytes_eq q.id n) rs)) (λ q. IsGood c q × (q.id ≡ n))
-    go true e rest = (g.0, (bytes_eq-Decides r.id n).0 e)
-    go false e rest = rest
+row_at c (r ∷ rs) n g = grind (arith, bytes_eq-Decides, row_at c rs n g.1)
 
 rule_is : (c : List Rule) (o : Opt) (r : Row) → Known c o → (g : IsGood c r) → r.id ≡ o.name → g.rule ≡ full_rule o
-rule_is c o r k g e =
-    let same : Some g.rule ≡ Some (full_rule o) = sym g.by_id ∙ (ap (arg_by_id c) e ∙ k.by_id) in
-    cc
-
-needed : (options : List Opt) (rows : List Row) → list_any (λ (a : Rule). a.required && not (is_given a.id rows)) (map full_rule options ++ filled help_rule ∷ []) ≡ false
-    → AllByRecursion (λ (o : Opt). is_required o ≡ true → is_given o.name rows ≡ true) options
-needed [] rows e = tt
-needed (o ∷ os) rows e = go (is_required o) (is_given o.name rows) refl refl e (needed os rows)
-  where
-    go : (b d : Bool) → is_required o ≡ b → is_given o.name rows ≡ d → ((b && not d) || list_any (λ (a : Rule). a.required && not (is_given a.id rows)) (map full_rule os ++ filled help_rule ∷ [])) ≡ false
-        → (list_any (λ (a : Rule). a.required && not (is_given a.id rows)) (map full_rule os ++ filled help_rule ∷ []) ≡ false → AllByRecursion (λ (q : Opt). is_required q ≡ true → is_given q.name rows ≡ true) os)
-        → (is_required o ≡ true → is_given o.name rows ≡ true) × AllByRecursion (λ (q : Opt). is_required q ≡ true → is_given q.name rows ≡ true) os
-    go true false r is f more = cc
-    go true true r is f more = (λ t. is, more f)
-    go false d r is f more = (λ t. absurd (true≢false (sym t ∙ r)), more f)
+rule_is c o r k g e = grind arith
 
 needs : (c : Command) (words : List Text) → Holds (sub c) words → AllByRecursion (λ (o : Opt). is_required o ≡ true → is_given o.name (rows_after (sub c).rules [] words) ≡ true) (options_of c)
-needs c words h =
-    needed (options_of c) (rows_after (sub c).rules [] words)
-    (subst (λ (rules : List Rule). list_any (λ (a : Rule). a.required && not (is_given a.id (rows_after (sub c).rules [] words))) rules ≡ false) (ready c).rules h.given)
+needs c words h = grind arith
 
 -- a value that its parser takes may be read
 readable : (f : Form) (v : Text) → accepts_as f v ≡ true → IsReadable f v
@@ -174,14 +134,7 @@ value_in any_text p = option_and_then (λ (r : Row). slice_get r.values 0) p
 value_in some_text p = option_and_then (λ (r : Row). slice_get r.values 0) p
 
 of_row : (f : Form) (rows : List Row) (n : Text) → given_as (text_in rows) (number_in rows) f n ≡ value_in f (find (λ (r : Row). bytes_eq r.id n) rows)
-of_row (number low high) rows n = refl
-of_row any_text rows n = refl
-of_row some_text rows n = refl
-
-first_in : (f : Form) (r : Row) (v : Text) (vs : List Text) → r.values ≡ v ∷ vs → r.reading ≡ AsWritten → value_in f (Some r) ≡ Some v
-first_in (number low high) r v vs is plain = ap₂ (λ (how : Reading) (us : List Text). option_map (read_as how) (slice_get us 0)) plain is
-first_in any_text r v vs is plain = ap (λ (us : List Text). slice_get us 0) is
-first_in some_text r v vs is plain = ap (λ (us : List Text). slice_get us 0) is
+of_row f rows n = grind arith
 
 -- an option's value is that of its row, or else its default
 has_value : (c : List Rule) (rows : List Row) (o : Opt) → Known c o → AreGood c rows → (is_required o ≡ true → is_given o.name rows ≡ true) → option_map_or (accepts_as o.form) o.default true ≡ true
@@ -201,10 +154,7 @@ has_value c rows o k g needs fit =
     first : (r : Row) (good : IsGood c r) → good.rule ≡ full_rule o → (vs : List Text) → r.values ≡ vs → 0 < length vs → AllByRecursion (λ v. accepts good.rule.ignore_case (parser_of_value good.rule.parser) v ≡ true) vs
         → IsSomeAnd (option_or (value_in o.form (Some r)) o.default) (IsReadable o.form)
     first r good is [] same lt passed = absurd (omega arith)
-    first r good is (v ∷ vs) same lt passed =
-        let plain : r.reading ≡ AsWritten = good.reading ∙ (ap reading_by is ∙ reads_as_written o.form) in
-        let ok : accepts_as o.form v ≡ true = subst (λ (a : Rule). accepts a.ignore_case (parser_of_value a.parser) v ≡ true) is passed.0 in
-        subst (λ (t : Option Text). IsSomeAnd (option_or t o.default) (IsReadable o.form)) (sym (first_in o.form r v vs same plain)) (readable o.form v ok)
+    first r good is (v ∷ vs) same lt passed = grind (arith, readable)
 
     go : (p : Option Row) → IfSome p (λ r. IsGood c r × (r.id ≡ o.name)) → (is_required o ≡ true → option_map_or (λ (r : Row). explicit_source r.source) p false ≡ true)
         → IsSomeAnd (option_or (value_in o.form p) o.default) (IsReadable o.form)
@@ -237,16 +187,9 @@ letter_tells reshard = refl
 pub same_command : (a b : Command) → name_of a ≡ name_of b → a ≡ b
 same_command a b same = sym (letter_tells a) ∙ (ap by_letter same ∙ letter_tells b)
 
-text_within : (o : Option Text) → IsSomeAnd o (λ t. 0 < length t) → 0 < length (unwrap_or o [])
-text_within None h = absurd h
-text_within (Some t) h = h
-
 module _ (text_at number_at : Given) where
   nodes_within : HaveValues text_at number_at IsReadable node_options → AreInRanges (nodes_by text_at number_at)
-  nodes_within h =
-      let j = number_within (value_of joiners number_at) 1 4 h.0 in
-      let b = number_within (value_of batch number_at) 1 64 h.1.1.0 in
-      record { some = j.0; few = j.1; shards = text_within (value_of shards text_at) h.1.0; least = b.0; batch = b.1 }
+  nodes_within h = grind arith
 
   within : (c : Command) → HaveValues text_at number_at IsReadable (options_of c) → IsInRanges (wish_by text_at number_at c)
   within join h = nodes_within h.1.1.1.1
@@ -255,19 +198,9 @@ module _ (text_at number_at : Given) where
   within bulk h = record { count = (number_within (value_of count number_at) 0 MOST_CLICKS h.1.0).1; nodes = nodes_within h.1.1 }
   within reshard h = tt
 
-  all_there : (options : List Opt) → HaveValues text_at number_at IsReadable options → HaveValues text_at number_at (λ f t. ⊤) options
-  all_there [] h = tt
-  all_there (o ∷ os) h = (go (value_of o (given_as text_at number_at o.form)) h.0, all_there os h.1)
-    where
-      go : (v : Option Text) → IsSomeAnd v (IsReadable o.form) → IsSomeAnd v (λ t. ⊤)
-      go None k = absurd k
-      go (Some t) k = tt
-
   -- what a command asks for by values that may be read
   pub in_range : (w : Wish) (c : Command) → IsNamed w (name_of c) text_at number_at → HaveValues text_at number_at IsReadable (options_of c) → IsFound w (name_of c) text_at number_at × IsInRanges w
-  in_range w c named h =
-      let own : HaveValues text_at number_at IsReadable (options_of (command_of w)) = subst (λ (d : Command). HaveValues text_at number_at IsReadable (options_of d)) (same_command c (command_of w) named.0) h in
-      ((named.0, (named.1, all_there (options_of (command_of w)) own)), subst IsInRanges (sym named.1) (within (command_of w) own))
+  in_range w c named h = grind (arith, within)
 
 -- what is asked for by words in which the parser finds no fault
 pub told : (words : List Text) (w : Wish) → fault_of photon_app words ≡ [] → IsSomeAnd (subcommand_of photon_app words) (λ p. IsNamed w p.0 (text_in p.1) (number_in p.1))
@@ -275,6 +208,4 @@ pub told : (words : List Text) (w : Wish) → fault_of photon_app words ≡ [] �
 told words w none named =
     let got = taken words none in
     let rows : List Row = rows_after (sub got.command).rules [] got.rest in
-    let asked = in_range (text_in rows) (number_in rows) w got.command (subst (λ (o : Option (Text × List Row)). IsSomeAnd o (λ p. IsNamed w p.0 (text_in p.1) (number_in p.1))) got.found named)
-    (has_values got.command got.rest got.holds) in
-    (subst (λ (o : Option (Text × List Row)). IsSomeAnd o (λ p. IsFound w p.0 (text_in p.1) (number_in p.1))) (sym got.found) asked.0, asked.1)
+    grind (arith, in_range, has_values)

@@ -1,7 +1,7 @@
 -- A line whose id no stray line has is the first with it.
 use Rattle.std.proofs.Common.{◌≡◌, ℕ, ◌<◌, Bool, true, false, List, [], ◌∷◌, ◌++◌, Option, Some, None, is_some, refl, sym, ap, ◌∙◌, subst, arith}
-use Rattle.event_store.proofs.Words.{list_any, or_left, or_right, both_ways, none-some, EventId, is_same, QueryRec, Index, ReadsNext, AreRead, TellsId, found, key_of, is_in_order, strays, ids_onto, Mark, ids_of, stray_of, place_of, Knows}
-use Rattle.event_store.proofs.Orders.{same_itself, key_itself, above}
+use Rattle.event_store.proofs.Words.{list_any, or_left, or_right, both_ways, none-some, EventId, is_same, QueryRec, Index, ReadsNext, AreRead, TellsId, found, strays, ids_onto, Mark, ids_of, stray_of, place_of, Knows}
+use Rattle.event_store.proofs.Orders.{above}
 use Rattle.event_store.proofs.Marking.{stray_any}
 use Rattle.event_store.proofs.Looking.{told_id}
 use Rattle.event_store.proofs.Walks.{next_same, line_at, walk_push}
@@ -26,18 +26,10 @@ found_id ids (Some q ∷ lines) id p e = here (found_id (q.id ∷ ids) lines id 
 
 -- an id that comes again is a stray's, and stays one
 again : (ids : List EventId) (id : EventId) → list_any (is_same id) ids ≡ true → list_any (is_same id) (strays (id ∷ ids)) ≡ true
-again ids id any = here (is_in_order ids id) refl
-  where
-    here : (t : Bool) → is_in_order ids id ≡ t → list_any (is_same id) (strays (id ∷ ids)) ≡ true
-    here true order = absurd (let l = above ids id id order any (key_itself (key_of id)) in omega (arith, l))
-    here false order = rw order (or_left (is_same id id) _ (same_itself id))
+again ids id any = grind (arith, above)
 
 stays : (id x : EventId) (ids : List EventId) → list_any (is_same id) (strays ids) ≡ true → list_any (is_same id) (strays (x ∷ ids)) ≡ true
-stays id x ids any = here (is_in_order ids x) refl
-  where
-    here : (t : Bool) → is_in_order ids x ≡ t → list_any (is_same id) (strays (x ∷ ids)) ≡ true
-    here true order = rw order any
-    here false order = rw order (or_right (is_same id x) _ any)
+stays id x ids any = grind arith
 
 module _ (log : List ℕ) (place : ℕ) (index : Index) (lines : List (Option QueryRec)) (marks : List Mark) (knows : Knows log place index lines marks) where
   pub first_here : (s next : ℕ) (front : List (Option QueryRec)) (q : QueryRec) → AreRead log s front → ReadsNext log s next (Some q) → s < place → stray_of marks q.id ≡ None → place_of marks q.id ≡ Some s

@@ -1,9 +1,6 @@
 -- What one change of a map leaves at each key.
-use Rattle.std.proofs.Common.{◌≡◌, ℕ, Bool, true, false, ◌&&◌, ◌==◌, cond, Option, Some, None, is_some, unwrap_or, refl, ap, ◌∙◌, arith, is_eq}
-use Rattle.event_store.proofs.Words.{both_ways, nat_tests, Process, Progress, same_key, key_cmp}
-
-fresh : Progress
-fresh = record { lines = 0; last = 0 }
+use Rattle.std.proofs.Common.{◌≡◌, ℕ, Bool, true, false, ◌&&◌, ◌==◌, cond, Option, Some, None, is_some, unwrap_or, ap, ◌∙◌, arith, is_eq}
+use Rattle.event_store.proofs.Words.{nat_tests, Process, Progress, same_key, key_cmp}
 
 eqb_flips : (a b : ℕ) → (a == b) ≡ (b == a)
 eqb_flips a b = grind (arith, nat_tests)
@@ -12,12 +9,10 @@ pub key_flips : (p q : Process) → same_key p q ≡ same_key q p
 key_flips p q = ap (λ (t : Bool). t && (p.pid == q.pid)) (eqb_flips p.ip q.ip) ∙ ap (λ (t : Bool). (q.ip == p.ip) && t) (eqb_flips p.pid q.pid)
 
 pub no_value : {A : Type 0} (o : Option A) → is_some o ≡ false → o ≡ None
-no_value None e = refl
-no_value (Some x) e = absurd (both_ways true e refl)
+no_value o e = grind arith
 
 pub room_same : (o n : Option Progress) (t : Bool) → n ≡ cond t (Some (record { lines = 0; last = 0 })) o → (t ≡ true → is_some o ≡ false) → unwrap_or n (record { lines = 0; last = 0 }) ≡ unwrap_or o (record { lines = 0; last = 0 })
-room_same o n false e absent = rw e
-room_same o n true e absent = rw (e, no_value o (absent refl))
+room_same o n t e absent = grind arith
 
 -- keys that compare as equal are one
 pub key_eq : (p q : Process) → is_eq (key_cmp p q) ≡ same_key p q

@@ -1,44 +1,23 @@
 -- How many entries one line more makes.
-use Rattle.std.proofs.Common.{◌≡◌, ℕ, ◌+◌, ◌/◌, ◌%◌, ◌<◌, Bool, true, false, ◌==◌, cond, List, [], ◌∷◌, length, sum_by, count_by, refl, sym, ap, ◌∙◌, arith}
-use Rattle.event_store.proofs.Words.{list_any, both_ways, or_parts, or_left, or_right, nat_tests, sum_by-cons, EventId, is_same, Process, same_process, is_in_order, in_order, strays, run_length, distinct, entries_among, same_key, key_of, progress, begins}
+use Rattle.std.proofs.Common.{◌≡◌, ℕ, ◌+◌, ◌/◌, ◌%◌, Bool, true, false, ◌==◌, cond, List, [], ◌∷◌, length, sum_by, count_by, refl, sym, ap, ◌∙◌, arith}
+use Rattle.event_store.proofs.Words.{list_any, both_ways, sum_by-cons, EventId, is_same, Process, same_process, is_in_order, in_order, strays, run_length, distinct, entries_among, same_key, key_of, progress, begins}
 use Rattle.event_store.proofs.Orders.{keys_one, key_itself}
 use Rattle.event_store.proofs.Changes.{key_flips}
-
--- two ids of one process have the same ids beside them
-like : (a b : EventId) → same_process a b ≡ true → (ids : List EventId) → list_any (same_process a) ids ≡ list_any (same_process b) ids
-like a b e ids = ap (λ (p : Process). list_any (λ (x : EventId). same_key p (key_of x)) ids) (keys_one (key_of a) (key_of b) e)
 
 -- a sum over processes, where what one of them counts rises by d
 one_raised : (f g : EventId → ℕ) (id : EventId) (d : ℕ) → ((a : EventId) → same_process id a ≡ true → g a ≡ f a + d) → ((a : EventId) → same_process id a ≡ false → g a ≡ f a) → (ids : List EventId) → sum_by g (distinct same_process ids) ≡ sum_by f (distinct same_process ids) + cond (list_any (same_process id) ids) d 0
 one_raised f g id d up stay [] = refl
-one_raised f g id d up stay (x ∷ ids) = here (one_raised f g id d up stay ids) (list_any (same_process x) ids) (same_process id x) refl refl
-  where
-    here : sum_by g (distinct same_process ids) ≡ sum_by f (distinct same_process ids) + cond (list_any (same_process id) ids) d 0 → (t s : Bool) → list_any (same_process x) ids ≡ t → same_process id x ≡ s → sum_by g (distinct same_process (x ∷ ids)) ≡ sum_by f (distinct same_process (x ∷ ids)) + cond (list_any (same_process id) (x ∷ ids)) d 0
-    here on true true t s = rw (t, s) (on ∙ ap (λ (b : Bool). sum_by f (distinct same_process ids) + cond b d 0) (like id x s ids ∙ t))
-    here on true false t s = rw (t, s) on
-    here on false true t s = rw (t, s) (let e = on ∙ ap (λ (b : Bool). sum_by f (distinct same_process ids) + cond b d 0) (like id x s ids ∙ t) in omega (arith, e, sum_by-cons f x (distinct same_process ids), sum_by-cons g x (distinct same_process ids), up x s))
-    here on false false t s = rw (t, s) (omega (arith, on, sum_by-cons f x (distinct same_process ids), sum_by-cons g x (distinct same_process ids), stay x s))
+one_raised f g id d up stay (x ∷ ids) = grind (arith, sum_by-cons, one_raised f g id d up stay ids)
 
 -- an id that isn't in order has one of its process before it
 has_one : (ids : List EventId) (id : EventId) → is_in_order ids id ≡ false → list_any (same_process id) ids ≡ true
 has_one [] id e = absurd (both_ways true e refl)
-has_one (x ∷ ids) id e = here (has_one ids id) (same_process id x) refl
-  where
-    here : (is_in_order ids id ≡ false → list_any (same_process id) ids ≡ true) → (t : Bool) → same_process id x ≡ t → list_any (same_process id) (x ∷ ids) ≡ true
-    here on true is = or_left (same_process id x) _ is
-    here on false is = or_right (same_process id x) _ (on (rw is at e))
+has_one (x ∷ ids) id e = grind (arith, has_one ids id)
 
 -- a process with no id has no in-order line
 none_in_order : (ids : List EventId) (id : EventId) → list_any (same_process id) ids ≡ false → run_length ids id ≡ 0
 none_in_order [] id e = refl
-none_in_order (x ∷ ids) id e = here (none_in_order ids id p.1) (is_in_order ids x) refl
-  where
-    p : (same_process id x ≡ false) × (list_any (same_process id) ids ≡ false)
-    p = or_parts (same_process id x) (list_any (same_process id) ids) e
-
-    here : run_length ids id ≡ 0 → (t : Bool) → is_in_order ids x ≡ t → run_length (x ∷ ids) id ≡ 0
-    here on true t = rw t (let z : cond {A = ℕ} (same_process id x) 1 0 ≡ 0 = rw p.0 in omega (arith, sum_by-cons (λ (y : EventId). cond (same_process id y) 1 0) x (in_order ids), z, on))
-    here on false t = rw t on
+none_in_order (x ∷ ids) id e = grind (arith, none_in_order ids id)
 
 -- how far a process has come is the number of its in-order lines
 pub lines_are : (ids : List EventId) (id : EventId) → (progress ids (key_of id)).lines ≡ run_length ids id
@@ -53,18 +32,10 @@ lines_are (x ∷ ids) id = here (lines_are ids id) (is_in_order ids x) (same_pro
 
 -- a stray line makes an entry where none with its id stands before it
 pub stray_more : (ids : List EventId) (id : EventId) → is_in_order ids id ≡ false → entries_among (id ∷ ids) ≡ entries_among ids + cond (list_any (is_same id) (strays ids)) 0 1
-stray_more ids id order = rw (order, has_one ids id order) (here (list_any (is_same id) (strays ids)) refl)
-  where
-    here : (t : Bool) → list_any (is_same id) (strays ids) ≡ t → sum_by (λ (a : EventId). (run_length ids a + 15) / 16) (distinct same_process ids) + length (distinct is_same (id ∷ strays ids)) ≡ entries_among ids + cond (list_any (is_same id) (strays ids)) 0 1
-    here true t = rw t (omega arith)
-    here false t = rw t (omega arith)
+stray_more ids id order = grind (arith, has_one)
 
 rise : (n : ℕ) → (n + 1 + 15) / 16 ≡ (n + 15) / 16 + cond (n % 16 == 0) 1 0
-rise n = here (n % 16 == 0) refl
-  where
-    here : (t : Bool) → (n % 16 == 0) ≡ t → (n + 1 + 15) / 16 ≡ (n + 15) / 16 + cond (n % 16 == 0) 1 0
-    here true t = rw t (let e : n % 16 ≡ 0 = grind (arith, nat_tests) in omega (arith, e))
-    here false t = rw t (let e : 0 < n % 16 = grind (arith, nat_tests) in omega (arith, e))
+rise n = grind arith
 
 -- an in-order line makes one where it is the first of sixteen of its process
 pub ordered_more : (ids : List EventId) (id : EventId) → is_in_order ids id ≡ true → entries_among (id ∷ ids) ≡ entries_among ids + cond (begins ids id) 1 0
@@ -79,12 +50,7 @@ ordered_more ids id order = rw (order, lines_are ids id) (here (list_any (same_p
         ap (λ (k : ℕ). (k + 15) / 16) m ∙ rise (run_length ids a) ∙ ap (λ (k : ℕ). (run_length ids a + 15) / 16 + cond (k % 16 == 0) 1 0) (sym both)
 
     stay : (a : EventId) → same_process id a ≡ false → (count_by (same_process a) (id ∷ in_order ids) + 15) / 16 ≡ (run_length ids a + 15) / 16
-    stay a s =
-        let one : count_by (same_process a) (id ∷ in_order ids) ≡ cond (same_process a id) 1 0 + run_length ids a = sum_by-cons (λ (y : EventId). cond (same_process a y) 1 0) id (in_order ids) in
-        let flipped : same_process a id ≡ false = key_flips (key_of a) (key_of id) ∙ s in
-        let z : cond {A = ℕ} (same_process a id) 1 0 ≡ 0 = rw flipped in
-        let m : count_by (same_process a) (id ∷ in_order ids) ≡ run_length ids a = omega (arith, one, z) in
-        ap (λ (k : ℕ). (k + 15) / 16) m
+    stay a s = grind arith
 
     sums : sum_by (λ (a : EventId). (count_by (same_process a) (id ∷ in_order ids) + 15) / 16) (distinct same_process ids) ≡ sum_by (λ (a : EventId). (run_length ids a + 15) / 16) (distinct same_process ids) + cond (list_any (same_process id) ids) (cond (run_length ids id % 16 == 0) 1 0) 0
     sums = one_raised (λ (a : EventId). (run_length ids a + 15) / 16) (λ (a : EventId). (count_by (same_process a) (id ∷ in_order ids) + 15) / 16) id (cond (run_length ids id % 16 == 0) 1 0) up stay ids

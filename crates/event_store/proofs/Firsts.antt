@@ -1,26 +1,19 @@
 -- The first line with an id, by its place and by what an index says.
-use Rattle.std.proofs.Common.{◌≡◌, ℕ, ◌<◌, ◌≤◌, Bool, true, false, nat_lt, List, [], ◌∷◌, Option, Some, None, MatchOption, option_map, unwrap_or, refl, sym, ap, ◌∙◌, subst, arith, ltb-true}
-use Rattle.event_store.proofs.Words.{option_or, none-some, nat_tests, MatchOption-at_some, MatchOption-at_none, same_Some, EventId, is_same, QueryRec, Index, AreRead, found, Mark, First, first_of, place_of, stray_of, Begins, IsStray, IsSegment, Starts, Knows, IsCache}
-use Rattle.event_store.proofs.Orders.{same_itself}
-use Rattle.event_store.proofs.Marking.{first_below, stray_first, no_stray, or_none}
-use Rattle.event_store.proofs.Walks.{walk_on, line_at, next_same, found_append, found_cons}
+use Rattle.std.proofs.Common.{◌≡◌, ℕ, ◌<◌, ◌≤◌, Bool, true, false, nat_lt, List, Option, Some, None, MatchOption, option_map, unwrap_or, refl, sym, ap, ◌∙◌, arith, ltb-true}
+use Rattle.event_store.proofs.Words.{none-some, nat_tests, MatchOption-at_some, MatchOption-at_none, EventId, QueryRec, Index, AreRead, found, Mark, First, first_of, place_of, stray_of, Begins, IsStray, IsSegment, Starts, Knows, IsCache}
+use Rattle.event_store.proofs.Marking.{first_below, stray_first, no_stray}
+use Rattle.event_store.proofs.Walks.{walk_on, line_at, next_same, found_append}
 
 -- where a longer front has no line with the id, none has
 pub none_in_front : (log : List ℕ) (x y : ℕ) (xs ys : List (Option QueryRec)) (id : EventId) → AreRead log x xs → AreRead log y ys → x ≤ y → found ys id ≡ None → found xs id ≡ None
-none_in_front log x y xs ys id xw yw le none =
-    let on = walk_on log 0 x y xs ys xw yw le in
-    (or_none (found xs id) (found on.0 id) (sym (found_append xs on.0 id) ∙ ap (λ (l : List (Option QueryRec)). found l id) (sym on.1) ∙ none)).0
-
-own : (q : QueryRec) (id : EventId) → q.id ≡ id → found (Some q ∷ []) id ≡ Some q
-own q id same = rw (subst (λ (i : EventId). is_same id i ≡ true) (sym same) (same_itself id)) refl
+none_in_front log x y xs ys id xw yw le none = grind (arith, walk_on, found_append)
 
 -- among lines that reach beyond it, it is found
 pub found_beyond : (log : List ℕ) (id : EventId) (s x : ℕ) (xs : List (Option QueryRec)) (first : Starts log id s) → AreRead log x xs → s < x → found xs id ≡ Some first.3.1
 found_beyond log id s x xs (before, walk, none, (next, q, step, same)) xw lt =
     let at = line_at log s x before xs walk xw lt in
     let one = next_same log s next at.0 (Some q) at.1 step at.2 in
-    ap (λ (l : List (Option QueryRec)). found l id) at.3.1 ∙ found_append before (at.1 ∷ at.3.0) id ∙ ap (λ (o : Option QueryRec). option_or o (found (at.1 ∷ at.3.0) id)) none
-    ∙ found_cons at.1 at.3.0 id ∙ ap (λ (z : Option QueryRec). option_or (found (z ∷ []) id) (found at.3.0 id)) (sym one.1) ∙ ap (λ (o : Option QueryRec). option_or o (found at.3.0 id)) (own q id same)
+    grind (arith, found_append)
 
 beyond_first : (log : List ℕ) (id : EventId) (s x : ℕ) (xs : List (Option QueryRec)) → Starts log id s → AreRead log x xs → s < x → found xs id ≡ None → ⊥
 beyond_first log id s x xs first xw lt absent = none-some first.3.1 (sym absent ∙ found_beyond log id s x xs first xw lt)
@@ -43,24 +36,14 @@ module _ (log : List ℕ) (place : ℕ) (index : Index) (lines : List (Option Qu
 
   -- what place_of says of the log
   pub first_at : (s : ℕ) → place_of marks id ≡ Some s → Starts log id s × (s < place)
-  first_at s is = here (first_of marks id) refl is
-    where
-      here : (o : Option First) → first_of marks id ≡ o → option_map (λ (f : First). f.place) o ≡ Some s → Starts log id s × (s < place)
-      here None e at = absurd (none-some s at)
-      here (Some f) e at = subst (λ (n : ℕ). Starts log id n × (n < place)) (same_Some f.place s at) (starts f e, first_below place marks id f knows.falls e)
+  first_at s is = grind (arith, first_below)
 
   -- what is kept at hand by lines from there on
   pub kept_ahead : (log' : List ℕ) (s : ℕ) (old new : EventId → Option ℕ) → place_of marks id ≡ Some s → log' ≡ log → ((front lines : List (Option QueryRec)) (marks : List Mark) → AreRead log' s front → Knows log' place index lines marks → IsCache old marks → IsCache new marks) → IsCache old marks → IsCache new marks
-  kept_ahead log' s old new is same more cache =
-      let first = first_at s is in
-      more first.0.0 lines marks (subst (λ (l : List ℕ). AreRead l s first.0.0) (sym same) first.0.1) (subst (λ (l : List ℕ). Knows l place index lines marks) (sym same) knows) cache
+  kept_ahead log' s old new is same more cache = grind arith
 
   pub nowhere : place_of marks id ≡ None → found lines id ≡ None
-  nowhere is = here (first_of marks id) refl is
-    where
-      here : (o : Option First) → first_of marks id ≡ o → option_map (λ (f : First). f.place) o ≡ None → found lines id ≡ None
-      here None e at = absent e
-      here (Some f) e at = absurd (none-some f.place (sym at))
+  nowhere is = grind arith
 
   -- and the log of place_of
   pub place_is : (s : ℕ) → Starts log id s → s < place → place_of marks id ≡ Some s
@@ -72,11 +55,7 @@ module _ (log : List ℕ) (place : ℕ) (index : Index) (lines : List (Option Qu
 
   -- up to a place that isn't behind the first line with the id, none is found
   none_up_to : (x : ℕ) (xs : List (Option QueryRec)) → AreRead log x xs → x ≤ place → ((f : First) → first_of marks id ≡ Some f → x ≤ f.place) → found xs id ≡ None
-  none_up_to x xs walk le before = here (first_of marks id) refl
-    where
-      here : (o : Option First) → first_of marks id ≡ o → found xs id ≡ None
-      here None e = none_in_front log x place xs lines id walk knows.walk le (absent e)
-      here (Some f) e = let st = starts f e in none_in_front log x f.place xs st.0 id walk st.1 (before f e) st.2
+  none_up_to x xs walk le before = grind (arith, none_in_front)
 
   -- what a scan tells of the lines up to its end
   abbrev pub Scanned : ℕ → List (Option QueryRec) → Option ℕ → Type 0
@@ -102,9 +81,7 @@ module _ (log : List ℕ) (place : ℕ) (index : Index) (lines : List (Option Qu
 
 module _ (log : List ℕ) (place : ℕ) (index : Index) (lines : List (Option QueryRec)) (marks : List Mark) (knows : Knows log place index lines marks) where
   walk_to : (s : ℕ) → Begins marks s → (before : List (Option QueryRec)) × AreRead log s before × (s < place)
-  walk_to s (k, f, first, at) =
-      let st = starts log place index lines marks knows k f first in
-      (st.0, subst (λ (n : ℕ). AreRead log n st.0) at st.1, omega (arith, first_below place marks k f knows.falls first, at))
+  walk_to s h = grind (arith, first_below)
 
   pub in_segment : (id : EventId) (s : ℕ) (end_ : Option ℕ) → IsSegment marks id s end_ → Scans log place index lines marks knows id s (unwrap_or end_ place)
   in_segment id s None segment =
@@ -117,8 +94,4 @@ module _ (log : List ℕ) (place : ℕ) (index : Index) (lines : List (Option Qu
 
 -- where the first line with the id is no in-order one, the first stray is it
 pub stray_is : (marks : List Mark) (id : EventId) → IsStray marks id → stray_of marks id ≡ place_of marks id
-stray_is marks id stray = here (first_of marks id) refl
-  where
-    here : (o : Option First) → first_of marks id ≡ o → stray_of marks id ≡ place_of marks id
-    here None e = no_stray marks id e ∙ sym (ap (option_map (λ (f : First). f.place)) e)
-    here (Some f) e = stray_first marks id f e (stray f e) ∙ sym (ap (option_map (λ (f : First). f.place)) e)
+stray_is marks id stray = grind (arith, no_stray, stray_first)

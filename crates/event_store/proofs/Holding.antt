@@ -1,6 +1,6 @@
 -- What a store holds, after a call.
-use Rattle.std.proofs.Common.{◌≡◌, ℕ, ◌+◌, ◌-◌, ◌^◌, ◌≤◌, min, true, false, List, [], ◌∷◌, length, take, length-drop, length-take, length-append, Result, Ok, Err, OnOk, OnErr, is_err, Option, Some, None, IfSome, refl, sym, ap, subst, arith}
-use Rattle.event_store.proofs.Words.{MAX_LOG, props, both_ways, line_feed, ∥∥₁_elim, ∥∥₁_map, EventId, QueryRec, Index, ReadsNext, AreRead, found, Mark, Keeps, place_of, Knows, IsCache, Holds}
+use Rattle.std.proofs.Common.{◌≡◌, ℕ, ◌+◌, ◌-◌, ◌^◌, ◌≤◌, min, true, false, List, [], ◌∷◌, length, take, length-drop, length-take, length-append, Result, OnOk, OnErr, is_err, Option, Some, None, IfSome, refl, sym, ap, subst, arith}
+use Rattle.event_store.proofs.Words.{MAX_LOG, props, line_feed, ∥∥₁_elim, ∥∥₁_map, EventId, QueryRec, Index, ReadsNext, AreRead, found, Mark, Keeps, place_of, Knows, IsCache, Holds}
 use Rattle.event_store.proofs.Walks.{walk_same, walk_beyond}
 
 -- nothing is read yet, and nothing is at hand
@@ -50,12 +50,10 @@ pub not_yet_prop : (lines : List (Option QueryRec)) (id : EventId) (n : ℕ) →
 not_yet_prop lines id n = hlevel props
 
 pub on_err : {X E : Type 0} {P : Type 0} (r : Result X E) → is_err r ≡ true → OnErr r P → P
-on_err (Ok x) e p = absurd (both_ways false refl e)
-on_err (Err x) e p = p
+on_err r e p = grind arith
 
 pub on_ok : {X E : Type 0} {P : Type 0} (r : Result X E) → is_err r ≡ false → OnOk r P → P
-on_ok (Ok x) e p = p
-on_ok (Err x) e p = absurd (both_ways true e refl)
+on_ok r e p = grind arith
 
 -- a line ends below the limit of what is read
 pub end_fits : (log : List ℕ) (place e : ℕ) (r : Option QueryRec) → ReadsNext log place e r → e ≤ MAX_LOG
@@ -68,7 +66,4 @@ end_fits log place e r (line, rest, is, lacks, ends, reads) =
 
 -- the count of one line more
 pub one_more : (log : List ℕ) (place count n : ℕ) (index : Index) (kept : EventId → Option ℕ) → Holds log place (count + 1) index kept → place ≤ MAX_LOG → n ≡ min (count + 1) (2 ^ 64 - 1) → Holds log place n index kept
-one_more log place count n index kept h le is =
-    let l = count_fits log place (count + 1) index kept h in
-    let same : count + 1 ≡ n = omega (arith, l, le, is) in
-    subst (λ (k : ℕ). Holds log place k index kept) same h
+one_more log place count n index kept h le is = grind (arith, count_fits)

@@ -1,16 +1,14 @@
 -- What one line more says of an id.
-use Rattle.std.proofs.Common.{◌≡◌, ℕ, ◌<◌, List, [], ◌∷◌, ◌++◌, length, Bool, Option, Some, None, true, false, refl, sym, ap, ◌∙◌, subst, arith}
+use Rattle.std.proofs.Common.{◌≡◌, ℕ, ◌<◌, List, [], ◌∷◌, ◌++◌, Bool, Option, Some, None, true, false, refl, sym, ap, ◌∙◌, subst, arith}
 use Rattle.std.specs.Option.{option_eq}
-use Rattle.event_store.proofs.Words.{both_ways, none-some, split_same, EventId, is_same, spell, QueryRec, IsQuery, query_line, QueryWhy, Why, query_right, space, Line, Long, line_feed, IsNext, ReadsAs, ReadsNext, AreRead, TellsId, found, Starts}
+use Rattle.event_store.proofs.Words.{both_ways, split_same, EventId, is_same, spell, QueryRec, IsQuery, query_line, QueryWhy, Why, query_right, space, Line, Long, IsNext, ReadsAs, ReadsNext, AreRead, TellsId, found, Starts}
 use Rattle.event_store.proofs.Orders.{same_id, same_itself}
 use Rattle.event_store.proofs.Refused.{long_line}
 use Rattle.event_store.proofs.Walks.{read_same, next_same, next_beyond, line_at, walk_push, found_new}
 
 -- the line that is handed out is the next one
 pub handed_out : (log : List ℕ) (place p e next : ℕ) (line : List ℕ) (read : Option QueryRec) → IsNext log place (Line p e) line → ReadsNext log place next read → (e ≡ next) × ReadsAs line read
-handed_out log place p e next line read (is_place, ends, short, lacks, stands) (line', rest', is', lacks', ends', reads) =
-    let parts = split_same line_feed line stands.0 line' rest' lacks lacks' (sym stands.1 ∙ is') in
-    (omega (arith, ends, ends', ap length parts.0), subst (λ (l : List ℕ). ReadsAs l read) (sym parts.0) reads)
+handed_out log place p e next line read h k = grind (arith, split_same)
 
 -- a line that is too long is none
 pub passed_over : (log : List ℕ) (place p e next : ℕ) (line front : List ℕ) (read : Option QueryRec) → IsNext log place (Long p e) line → ReadsNext log place next read → (e ≡ next) × TellsId front read None
@@ -20,8 +18,7 @@ passed_over log place p e next line front read told step =
 
 -- a line that doesn't begin with the front
 pub not_begun : (line front : List ℕ) (read : Option QueryRec) (begins : Bool) → ((rest : List ℕ) → line ≡ front ++ rest → begins ≡ true) → begins ≡ false → ReadsAs line read → TellsId front read None
-not_begun line front None begins only not reads = refl
-not_begun line front (Some q) begins only not reads = (tt, λ rest is. absurd (both_ways begins not (only rest (reads.1 ∙ is))))
+not_begun line front read begins only not reads = grind arith
 
 -- a line that is a record's, and one that isn't
 pub told_record : (line front : List ℕ) (read : Option QueryRec) (id : EventId) (q : QueryRec) → IsQuery q → line ≡ query_line q → q.id ≡ id → ReadsAs line read → TellsId front read (Some id)
@@ -34,8 +31,7 @@ told_none line front (Some q) w why reads = absurd (query_right line q w reads.0
 
 -- the line has the id that is told
 pub told_id : (front : List ℕ) (read : Option QueryRec) (id : EventId) → TellsId front read (Some id) → (q : QueryRec) × (read ≡ Some q) × (q.id ≡ id)
-told_id front None id told = absurd (none-some id (sym told))
-told_id front (Some q) id told = (q, refl, sym told.0)
+told_id front read id told = grind arith
 
 -- and hasn't another one
 told_other : (id : EventId) (read : Option QueryRec) (told : Option EventId) → TellsId (spell id) read told → (told ≡ Some id → ⊥) → found (read ∷ []) id ≡ None
@@ -50,8 +46,7 @@ told_other id (Some q) told tells other = here (is_same id q.id) refl
 
 -- by a comparison of ids
 pub is_told : (eq : EventId → EventId → Bool) → ((a b : EventId) → eq a b ≡ is_same a b) → (told : Option EventId) (id : EventId) → true ≡ option_eq eq told (Some id) → told ≡ Some id
-is_told eq same None id e = absurd (both_ways true e refl)
-is_told eq same (Some own) id e = ap (λ (i : EventId). Some i) (same_id own id (sym (same own id) ∙ sym e))
+is_told eq same told id e = grind arith
 
 pub not_told : (eq : EventId → EventId → Bool) → ((a b : EventId) → eq a b ≡ is_same a b) → (told : Option EventId) (id : EventId) → false ≡ option_eq eq told (Some id) → told ≡ Some id → ⊥
 not_told eq same told id e is = both_ways (option_eq eq told (Some id)) (sym e) (ap (λ (o : Option EventId). option_eq eq o (Some id)) is ∙ same id id ∙ same_itself id)

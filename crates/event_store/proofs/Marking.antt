@@ -1,19 +1,7 @@
 -- Where the first line with an id stands, and what an index says of it.
-use Rattle.std.proofs.Common.{◌≡◌, ◌≢◌, ℕ, ◌<◌, ◌≤◌, ◌%◌, ◌⊎◌, inl, inr, ⊎_elim, Bool, true, false, not, ◌&&◌, ◌==◌, cond, List, [], ◌∷◌, Option, Some, None, is_some, refl, sym, ap, ◌∙◌, subst, arith, eq-eqb}
-use Rattle.event_store.proofs.Words.{option_or, list_any, and_parts, and_from, cases_eq, or_left, or_right, cond-true, none-some, same_Some, cond_some, EventId, is_same, Process, same_process, is_in_order, strays, Mark, First, as_first, ids_of, same_key, key_of, progress, begins, entry_of, stray_of, first_of, Falls}
-use Rattle.event_store.proofs.Orders.{same_id, same_itself, keys_one, key_itself, above}
-
-or_some : {A : Type 0} (a b : Option A) (x : A) → option_or a b ≡ Some x → (a ≡ Some x) ⊎ ((a ≡ None) × (b ≡ Some x))
-or_some None b x e = inr (refl, e)
-or_some (Some y) b x e = inl e
-
-pub or_none : {A : Type 0} (a b : Option A) → option_or a b ≡ None → (a ≡ None) × (b ≡ None)
-or_none None b e = (refl, e)
-or_none (Some y) b e = absurd (none-some y (sym e))
-
-cond_or : {A : Type 0} (t : Bool) (x : A) (o : Option A) (y : A) → cond t (Some x) o ≡ Some y → ((t ≡ true) × (x ≡ y)) ⊎ ((t ≡ false) × (o ≡ Some y))
-cond_or true x o y e = inl (refl, same_Some x y e)
-cond_or false x o y e = inr (refl, e)
+use Rattle.std.proofs.Common.{◌≡◌, ◌≢◌, ℕ, ◌<◌, ◌≤◌, ◌%◌, ◌⊎◌, inl, inr, Bool, true, false, ◌&&◌, ◌==◌, cond, List, [], ◌∷◌, Option, Some, None, is_some, refl, sym, ap, ◌∙◌, subst, arith, eq-eqb}
+use Rattle.event_store.proofs.Words.{option_or, list_any, and_from, cases_eq, cond-true, none-some, EventId, is_same, Process, same_process, is_in_order, strays, Mark, First, as_first, ids_of, same_key, key_of, progress, begins, entry_of, stray_of, first_of, Falls}
+use Rattle.event_store.proofs.Orders.{same_itself, keys_one, key_itself, above}
 
 cond_is : {A : Type 0} (t : Bool) (x : A) (o : Option A) → (t ≡ false → (y : A) × (o ≡ Some y)) → (y : A) × (cond t (Some x) o ≡ Some y)
 cond_is true x o other = (x, refl)
@@ -21,43 +9,27 @@ cond_is false x o other = other refl
 
 -- the first of m and earlier ones: an earlier one, or m where it has the id
 first_cases : (m : Mark) (earlier : List Mark) (id : EventId) (f : First) → first_of (m ∷ earlier) id ≡ Some f → (first_of earlier id ≡ Some f) ⊎ ((id ≡ m.id) × (m.place ≡ f.place) × (is_in_order (ids_of earlier) m.id ≡ f.ordered))
-first_cases m earlier id f e =
-    ⊎_elim (λ (h : first_of earlier id ≡ Some f). inl h) (λ (h : (first_of earlier id ≡ None) × (cond (is_same id m.id) (Some (as_first m earlier)) None ≡ Some f)). let p = cond_some (is_same id m.id) (as_first m earlier) f h.1 in inr (same_id id m.id p.0, ap (λ (g : First). g.place) p.1, ap (λ (g : First). g.ordered) p.1)) (or_some (first_of earlier id) _ f e)
+first_cases m earlier id f e = grind arith
 
 any_first : (marks : List Mark) (id : EventId) (f : First) → first_of marks id ≡ Some f → list_any (is_same id) (ids_of marks) ≡ true
 any_first [] id f e = absurd (none-some f e)
-any_first (m ∷ earlier) id f e = elim (first_cases m earlier id f e) [
-  | inl h ↦ or_right (is_same id m.id) _ (any_first earlier id f h)
-  | inr h ↦ or_left (is_same id m.id) _ (subst (λ (i : EventId). is_same id i ≡ true) h.0 (same_itself id))
-]
+any_first (m ∷ earlier) id f e = grind (arith, any_first earlier id f)
 
 pub first_below : (place : ℕ) (marks : List Mark) (id : EventId) (f : First) → Falls place marks → first_of marks id ≡ Some f → f.place < place
 first_below place [] id f falls e = absurd (none-some f e)
-first_below place (m ∷ earlier) id f falls e = elim (first_cases m earlier id f e) [
-  | inl h ↦ omega (arith, falls.0, first_below m.place earlier id f falls.1 h)
-  | inr h ↦ omega (arith, falls.0, h.1)
-]
+first_below place (m ∷ earlier) id f falls e = grind (arith, first_below m.place earlier id f falls.1)
 
 -- an entry is of m, or of an earlier line
 entry_cases : (m : Mark) (earlier : List Mark) (k : EventId) (s : ℕ) → entry_of (m ∷ earlier) k ≡ Some s → ((k ≡ m.id) × (is_in_order (ids_of earlier) m.id ≡ true) × (m.place ≡ s)) ⊎ (entry_of earlier k ≡ Some s)
-entry_cases m earlier k s e = elim (cond_or (is_same k m.id && begins (ids_of earlier) m.id) m.place (entry_of earlier k) s e) [
-  | inl h ↦ let p = and_parts (is_same k m.id) (begins (ids_of earlier) m.id) h.0 in inl (same_id k m.id p.0, (and_parts (is_in_order (ids_of earlier) m.id) _ p.1).0, h.1)
-  | inr h ↦ inr h.1
-]
+entry_cases m earlier k s e = grind arith
 
 any_entry : (marks : List Mark) (k : EventId) (s : ℕ) → entry_of marks k ≡ Some s → list_any (is_same k) (ids_of marks) ≡ true
 any_entry [] k s e = absurd (none-some s e)
-any_entry (m ∷ earlier) k s e = elim (entry_cases m earlier k s e) [
-  | inl h ↦ or_left (is_same k m.id) _ (subst (λ (i : EventId). is_same k i ≡ true) h.0 (same_itself k))
-  | inr h ↦ or_right (is_same k m.id) _ (any_entry earlier k s h)
-]
+any_entry (m ∷ earlier) k s e = grind (arith, any_entry earlier k s)
 
 entry_below : (place : ℕ) (marks : List Mark) (k : EventId) (s : ℕ) → Falls place marks → entry_of marks k ≡ Some s → s < place
 entry_below place [] k s falls e = absurd (none-some s e)
-entry_below place (m ∷ earlier) k s falls e = elim (entry_cases m earlier k s e) [
-  | inl h ↦ omega (arith, falls.0, h.2)
-  | inr h ↦ omega (arith, falls.0, entry_below m.place earlier k s falls.1 h)
-]
+entry_below place (m ∷ earlier) k s falls e = grind (arith, entry_below m.place earlier k s falls.1)
 
 -- an entry's line is the first with its id
 pub entry_first : (marks : List Mark) (k : EventId) (s : ℕ) → entry_of marks k ≡ Some s → (f : First) × (first_of marks k ≡ Some f) × (f.place ≡ s) × (f.ordered ≡ true)
@@ -151,45 +123,18 @@ has_entry (m ∷ earlier) id f first order = elim (first_cases m earlier id f fi
 
 pub no_stray : (marks : List Mark) (id : EventId) → first_of marks id ≡ None → stray_of marks id ≡ None
 no_stray [] id e = refl
-no_stray (m ∷ earlier) id e = here (no_stray earlier id) (is_same id m.id) refl
-  where
-    parts : (first_of earlier id ≡ None) × (cond (is_same id m.id) (Some (as_first m earlier)) None ≡ None)
-    parts = or_none (first_of earlier id) _ e
-
-    here : (first_of earlier id ≡ None → stray_of earlier id ≡ None) → (t : Bool) → is_same id m.id ≡ t → stray_of (m ∷ earlier) id ≡ None
-    here on true is = absurd (none-some (as_first m earlier) (sym (rw is at parts.1)))
-    here on false is = rw (on parts.0, is)
+no_stray (m ∷ earlier) id e = grind (arith, no_stray earlier id)
 
 -- where the first line with an id is a stray, it is the one kept
 pub stray_first : (marks : List Mark) (id : EventId) (f : First) → first_of marks id ≡ Some f → f.ordered ≡ false → stray_of marks id ≡ Some f.place
 stray_first [] id f first stray = absurd (none-some f first)
-stray_first (m ∷ earlier) id f first stray = elim (or_some (first_of earlier id) _ f first) [
-  | inl g ↦ ap (λ (o : Option ℕ). option_or o (cond (is_same id m.id && not (is_in_order (ids_of earlier) m.id)) (Some m.place) None)) (stray_first earlier id f g stray)
-  | inr g ↦
-      let p = cond_some (is_same id m.id) _ f g.1 in
-      let order : is_in_order (ids_of earlier) m.id ≡ false = ap (λ (x : First). x.ordered) p.1 ∙ stray in
-      ap (λ (o : Option ℕ). option_or o (cond (is_same id m.id && not (is_in_order (ids_of earlier) m.id)) (Some m.place) None)) (no_stray earlier id g.0)
-      ∙ (rw (p.0, order) (ap (λ (x : First). Some x.place) p.1))
-]
+stray_first (m ∷ earlier) id f first stray = grind (arith, no_stray, stray_first earlier id f)
 
 -- no line has an id that would be in order
 pub no_first : (marks : List Mark) (id : EventId) → is_in_order (ids_of marks) id ≡ true → first_of marks id ≡ None
-no_first marks id order = here (first_of marks id) refl
-  where
-    here : (o : Option First) → first_of marks id ≡ o → first_of marks id ≡ None
-    here None e = e
-    here (Some f) e = absurd (let l = above (ids_of marks) id id order (any_first marks id f e) (key_itself (key_of id)) in omega (arith, l))
+no_first marks id order = grind (arith, above, any_first)
 
 -- which ids have a stray line
 pub stray_any : (marks : List Mark) (id : EventId) → list_any (is_same id) (strays (ids_of marks)) ≡ is_some (stray_of marks id)
 stray_any [] id = refl
-stray_any (m ∷ earlier) id = here (stray_any earlier id) (is_in_order (ids_of earlier) m.id) (is_same id m.id) (stray_of earlier id) refl refl refl
-  where
-    here : list_any (is_same id) (strays (ids_of earlier)) ≡ is_some (stray_of earlier id) → (t s : Bool) (o : Option ℕ) → is_in_order (ids_of earlier) m.id ≡ t → is_same id m.id ≡ s → stray_of earlier id ≡ o → list_any (is_same id) (strays (ids_of (m ∷ earlier))) ≡ is_some (stray_of (m ∷ earlier) id)
-    here on true true None t s o = rw (t, s, o) (on ∙ ap is_some o)
-    here on true false None t s o = rw (t, s, o) (on ∙ ap is_some o)
-    here on true s (Some x) t e o = rw (t, o) (on ∙ ap is_some o)
-    here on false true None t s o = rw (t, s, o) refl
-    here on false false None t s o = rw (t, s, o) (on ∙ ap is_some o)
-    here on false true (Some x) t s o = rw (t, s, o) refl
-    here on false false (Some x) t s o = rw (t, s, o) (on ∙ ap is_some o)
+stray_any (m ∷ earlier) id = grind (arith, stray_any earlier id)

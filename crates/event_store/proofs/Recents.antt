@@ -1,5 +1,5 @@
 -- The places at hand.
-use Rattle.std.proofs.Common.{◌≡◌, ℕ, ◌+◌, Bool, true, false, cond, List, [], Option, Some, None, IfSome, Result, Ok, Err, OnOk, OnErr, MatchResult, is_eq, length, refl, sym, ap, ◌∙◌, subst, arith}
+use Rattle.std.proofs.Common.{◌≡◌, ℕ, ◌+◌, Bool, cond, List, [], Option, Some, None, IfSome, Result, Ok, Err, OnOk, OnErr, MatchResult, is_eq, length, refl, sym, ap, ◌∙◌, subst, arith}
 use Rattle.std.proofs.Math.ListN.{get_or}
 use Rattle.std.proofs.lemmas.Cmp.{eq_by_cmp_equiv}
 use Rattle.std.proofs.lemmas.List.{get_or-map}
@@ -14,7 +14,6 @@ use Rattle.std.specs.Ordering.{is_lt, ordering_reverse}
 use Rattle.std.specs.declared.cmp.Ordering.TheVariants.{Less, Greater}
 use Rattle.event_id.proofs.Order.{ids_total}
 use Rattle.event_store.proofs.Words.{option_or, lookup, is_at, EventId, id_cmp, Mark, place_of, IsCache}
-use Rattle.event_store.proofs.Orders.{equal_id}
 
 abbrev Kept : Type 0
 Kept = EventId → Option ℕ
@@ -25,13 +24,11 @@ pub remembered : (was now old : Kept) (own : EventId) (place : ℕ) → ((id : E
 remembered was now old own place put marks cache first = λ id. subst (λ (o : Option ℕ). IfSome (option_or o (old id)) (λ s. place_of marks id ≡ Some s)) (sym (put id)) (go id (is_eq (id_cmp own id)) refl)
   where
     go : (id : EventId) (t : Bool) → is_eq (id_cmp own id) ≡ t → IfSome (option_or (cond t (Some place) (was id)) (old id)) (λ s. place_of marks id ≡ Some s)
-    go id true e = subst (λ (i : EventId). place_of marks i ≡ Some place) (equal_id own id e) first
-    go id false e = cache id
+    go id t e = grind arith
 
 -- whether or not there was memory for it
 pub either_way : {X E A B P : Type 0} (r : Result X E) → OnOk r A → OnErr r B → (A → P) → (B → P) → P
-either_way (Ok x) a b f g = f a
-either_way (Err e) a b f g = g b
+either_way r a b f g = grind arith
 
 -- what is at hand for an id
 pub hand_is : (kept : Kept) (id : EventId) (o : Option ℕ) → o ≡ kept id → (marks : List Mark) → IsCache kept marks → IfSome o (λ s. place_of marks id ≡ Some s)

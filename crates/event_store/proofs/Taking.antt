@@ -1,6 +1,6 @@
 -- What is known after one line more.
-use Rattle.std.proofs.Common.{◌≡◌, ℕ, ◌+◌, ◌<◌, Bool, true, false, cond, List, [], ◌∷◌, ◌++◌, Option, Some, None, MatchOption, option_map, refl, sym, ap, ◌∙◌, arith, length-append}
-use Rattle.event_store.proofs.Words.{option_or, none-some, IfSome_then, EventId, is_same, QueryRec, Index, ReadsNext, AreRead, found, ids_onto, Mark, First, Keeps, as_first, first_of, place_of, ids_of, Falls, Starts, IsCache, Holds}
+use Rattle.std.proofs.Common.{◌≡◌, ℕ, ◌+◌, ◌<◌, Bool, true, false, cond, List, [], ◌∷◌, ◌++◌, Option, Some, None, MatchOption, refl, sym, ap, ◌∙◌, arith, length-append}
+use Rattle.event_store.proofs.Words.{option_or, EventId, is_same, QueryRec, Index, ReadsNext, AreRead, found, ids_onto, Mark, First, Keeps, as_first, first_of, place_of, ids_of, Falls, Starts, IsCache, Holds}
 use Rattle.event_store.proofs.Orders.{same_id, same_itself}
 use Rattle.event_store.proofs.Walks.{next_beyond, walk_push, found_new}
 
@@ -14,8 +14,7 @@ falls_more place e [] lt falls = tt
 falls_more place e (m ∷ marks) lt falls = (omega (arith, falls.0, lt), falls.1)
 
 falls_with : (place e : ℕ) (r : Option QueryRec) (marks : List Mark) → place < e → Falls place marks → Falls e (with_line place r marks)
-falls_with place e None marks lt falls = falls_more place e marks lt falls
-falls_with place e (Some q) marks lt falls = (lt, falls)
+falls_with place e r marks lt falls = grind (arith, falls_more)
 
 pub ids_append : (earlier : List EventId) (lines more : List (Option QueryRec)) → ids_onto earlier (lines ++ more) ≡ ids_onto (ids_onto earlier lines) more
 ids_append earlier [] more = refl
@@ -23,26 +22,16 @@ ids_append earlier (None ∷ lines) more = ids_append earlier lines more
 ids_append earlier (Some q ∷ lines) more = ids_append (q.id ∷ earlier) lines more
 
 ids_with : (place : ℕ) (r : Option QueryRec) (marks : List Mark) → ids_of (with_line place r marks) ≡ ids_onto (ids_of marks) (r ∷ [])
-ids_with place None marks = refl
-ids_with place (Some q) marks = refl
-
-place_stays : (first more : Option First) (s : ℕ) → option_map (λ (f : First). f.place) first ≡ Some s → option_map (λ (f : First). f.place) (option_or first more) ≡ Some s
-place_stays None more s is = absurd (none-some s is)
-place_stays (Some f) more s is = is
+ids_with place r marks = grind arith
 
 pub cached_more : (kept : EventId → Option ℕ) (marks : List Mark) (place : ℕ) (r : Option QueryRec) → IsCache kept marks → IsCache kept (with_line place r marks)
-cached_more kept marks place None cache = cache
-cached_more kept marks place (Some q) cache = λ id. IfSome_then (kept id) (cache id) (λ s is. place_stays (first_of marks id) _ s is)
+cached_more kept marks place r cache = grind arith
 
 abbrev Tied : List ℕ → List (Option QueryRec) → List Mark → EventId → Type 0
 Tied log lines marks id = MatchOption (first_of marks id) (found lines id ≡ None) (λ (f : First). Starts log id f.place)
 
 tied_with : (log : List ℕ) (place e : ℕ) (r : Option QueryRec) (lines : List (Option QueryRec)) (marks : List Mark) → AreRead log place lines → ReadsNext log place e r → (id : EventId) → Tied log lines marks id → Tied log (lines ++ r ∷ []) (with_line place r marks) id
-tied_with log place e None lines marks walk step id tied = here (first_of marks id) tied
-  where
-    here : (o : Option First) → MatchOption o (found lines id ≡ None) (λ (f : First). Starts log id f.place) → MatchOption o (found (lines ++ None ∷ []) id ≡ None) (λ (f : First). Starts log id f.place)
-    here None none = found_new lines None id none
-    here (Some f) starts = starts
+tied_with log place e None lines marks walk step id tied = grind (arith, found_new)
 tied_with log place e (Some q) lines marks walk step id tied = here (first_of marks id) (is_same id q.id) refl tied
   where
     here : (o : Option First) (t : Bool) → is_same id q.id ≡ t → MatchOption o (found lines id ≡ None) (λ (f : First). Starts log id f.place) → MatchOption (option_or o (cond (is_same id q.id) (Some (as_first (record { place = place; id = q.id }) marks)) None)) (found (lines ++ Some q ∷ []) id ≡ None) (λ (f : First). Starts log id f.place)

@@ -1,5 +1,5 @@
 -- Lines read one after another, of which there is one way.
-use Rattle.std.proofs.Common.{◌≡◌, ℕ, ◌+◌, ◌<◌, ◌≤◌, List, [], ◌∷◌, ◌++◌, length, Option, Some, None, refl, sym, ap, ◌∙◌, subst, arith, append-nil}
+use Rattle.std.proofs.Common.{◌≡◌, ℕ, ◌+◌, ◌<◌, ◌≤◌, List, [], ◌∷◌, ◌++◌, length, Option, Some, None, refl, sym, ap, ◌∙◌, subst, arith}
 use Rattle.event_store.proofs.Words.{option_or, find-append, filter_map-append, Lacks, split_same, lacks_none, EventId, is_same, QueryRec, query_same, first, line_feed, ReadsAs, ReadsNext, ReadsLines, AreRead, IsAtEnd, records, found}
 
 pub read_same : (line : List ℕ) (r s : Option QueryRec) → ReadsAs line r → ReadsAs line s → r ≡ s
@@ -10,9 +10,7 @@ read_same line (Some p) (Some q) a b = ap (λ (x : QueryRec). Some x) (query_sam
 
 -- the next line is one
 pub next_same : (log : List ℕ) (place e f : ℕ) (r s : Option QueryRec) → ReadsNext log place e r → ReadsNext log place f s → (e ≡ f) × (r ≡ s)
-next_same log place e f r s (line, rest, is, lacks, ends, reads) (line', rest', is', lacks', ends', reads') =
-    let parts = split_same line_feed line rest line' rest' lacks lacks' (sym is ∙ is') in
-    (omega (arith, ends, ends', ap length parts.0), read_same line' r s (subst (λ (l : List ℕ). ReadsAs l r) parts.0 reads) reads')
+next_same log place e f r s h k = grind (arith, split_same, read_same)
 
 pub next_not_end : (log : List ℕ) (place e : ℕ) (r : Option QueryRec) → ReadsNext log place e r → IsAtEnd log place → ⊥
 next_not_end log place e r (line, rest, is, lacks, ends, reads) none = lacks_none line_feed line rest (subst (Lacks line_feed) is none)
@@ -43,9 +41,7 @@ walk_on log a s m (x ∷ xs) (y ∷ ys) (n, xn, xw) (n', yn, yw) le =
 
 -- the lines up to a place are one list
 pub walk_same : (log : List ℕ) (a m : ℕ) (xs ys : List (Option QueryRec)) → ReadsLines log a m xs → ReadsLines log a m ys → xs ≡ ys
-walk_same log a m xs ys xw yw =
-    let on = walk_on log a m m xs ys xw yw (omega arith) in
-    sym (on.1 ∙ ap (λ (zs : List (Option QueryRec)). xs ++ zs) (walk_done log m m on.0 on.2 (omega arith)) ∙ append-nil xs)
+walk_same log a m xs ys xw yw = grind (arith, walk_on, walk_done)
 
 -- the line at a place before the end
 pub line_at : (log : List ℕ) (place end_ : ℕ) (front lines : List (Option QueryRec)) → AreRead log place front → AreRead log end_ lines → place < end_ → (next : ℕ) × (r : Option QueryRec) × ReadsNext log place next r × ((rest : List (Option QueryRec)) × (lines ≡ front ++ r ∷ rest))
@@ -57,10 +53,6 @@ line_at log place end_ front lines fw lw lt = let on = walk_on log 0 place end_ 
 
 pub found_append : (xs ys : List (Option QueryRec)) (id : EventId) → found (xs ++ ys) id ≡ option_or (found xs id) (found ys id)
 found_append xs ys id = ap (λ (qs : List QueryRec). first qs id) (filter_map-append (λ (line : Option QueryRec). line) xs ys) ∙ find-append (λ (q : QueryRec). is_same id q.id) (records xs) (records ys)
-
--- the first line, and those behind it
-pub found_cons : (x : Option QueryRec) (xs : List (Option QueryRec)) (id : EventId) → found (x ∷ xs) id ≡ option_or (found (x ∷ []) id) (found xs id)
-found_cons x xs id = found_append (x ∷ []) xs id
 
 pub found_new : (lines : List (Option QueryRec)) (r : Option QueryRec) (id : EventId) → found lines id ≡ None → found (lines ++ r ∷ []) id ≡ found (r ∷ []) id
 found_new lines r id none = found_append lines (r ∷ []) id ∙ ap (λ (o : Option QueryRec). option_or o (found (r ∷ []) id)) none

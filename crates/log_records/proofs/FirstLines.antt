@@ -1,14 +1,10 @@
 -- The map of first lines, one line more.
-use Rattle.std.proofs.Common.{◌≡◌, ◌≢◌, ◌⊎◌, inl, inr, ℕ, true, false, List, [], ◌∷◌, ◌++◌, Some, None, Contains, unwrap_or, refl, sym, ap, subst, ◌∙◌, arith}
+use Rattle.std.proofs.Common.{◌≡◌, ◌≢◌, ◌⊎◌, inl, inr, ℕ, true, false, List, [], ◌∷◌, ◌++◌, Some, Contains, unwrap_or, sym, ap, subst, ◌∙◌, arith}
 use Rattle.std.specs.Prelude.{Option}
-use Rattle.std.specs.declared.cmp.Ordering.{Ordering}
-use Rattle.std.specs.declared.cmp.Ordering.TheVariants.{Less, Equal, Greater}
-use Rattle.std.specs.Ordering.{is_eq, nat_cmp, ordering_then}
-use Rattle.std.proofs.lemmas.Bool.{cases_Bool, true≢false}
-use Rattle.std.proofs.lemmas.Bool.Decides.{nat_tests}
+use Rattle.std.proofs.lemmas.Bool.{cases_Bool}
 use Rattle.std.proofs.lemmas.List.Elements.{Contains-push_cases, Contains-push, Contains-append_left}
 use Rattle.event_id.specs.declared.id.EventId.{EventId}
-use Rattle.list_words.proofs.Lists.{some_same, none_some}
+use Rattle.list_words.proofs.Lists.{some_same}
 use Rattle.log_records.specs.declared.why.Why.{Why}
 use Rattle.log_records.specs.declared.why.Why.TheVariants as why
 use Rattle.log_records.specs.Line.{OrMemory}
@@ -17,30 +13,13 @@ use Rattle.log_records.specs.Seen.{Seen, line_at, is_at, Keeps}
 
 -- ---- ids that are one
 
-both_equal : (o p : Ordering) → is_eq (ordering_then o p) ≡ true → (is_eq o ≡ true) × (is_eq p ≡ true)
-both_equal Less p e = absurd (true≢false (sym e))
-both_equal Equal p e = (refl, e)
-both_equal Greater p e = absurd (true≢false (sym e))
-
-number_same : (m n : ℕ) → is_eq (nat_cmp m n) ≡ true → m ≡ n
-number_same m n e = grind (arith, nat_tests)
-
 pub id_same : (x y : EventId) → is_at x y ≡ true → x ≡ y
-id_same x y e =
-    let outer = both_equal (nat_cmp x.ip y.ip) (ordering_then (nat_cmp x.pid y.pid) (nat_cmp x.micros y.micros)) e in
-    let inner = both_equal (nat_cmp x.pid y.pid) (nat_cmp x.micros y.micros) outer.1 in
-    let of : (a b c : ℕ) → EventId = λ a b c. record { ip = a; pid = b; micros = c } in
-    ap (λ a. of a x.pid x.micros) (number_same x.ip y.ip outer.0) ∙ ap (λ b. of y.ip b x.micros) (number_same x.pid y.pid inner.0) ∙ ap (of y.ip y.pid) (number_same x.micros y.micros inner.1)
+id_same x y e = grind arith
 
 -- ---- the map
 
 kept_line : (o : Option (List ℕ)) (first line : List ℕ) → o ≡ Some first → unwrap_or o line ≡ line → first ≡ line
-kept_line None first line e same = none_some first e
-kept_line (Some x) first line e same = sym (some_same x first e) ∙ same
-
-other_line : (o : Option (List ℕ)) (line : List ℕ) → unwrap_or o line ≢ line → (first : List ℕ) × (o ≡ Some first) × (first ≢ line)
-other_line None line apart = absurd (apart refl)
-other_line (Some x) line apart = (x, refl, apart)
+kept_line o first line e same = grind arith
 
 module _ {R : Type 0} (line_of : R → List ℕ) (id_of : R → EventId) where
   module _ (old new : Seen) (rs : List R) (r : R) (id : EventId) (line : List ℕ) (is_line : line ≡ line_of r) (is_id : id_of r ≡ id) (same : unwrap_or (line_at old id) line ≡ line) (kept : line_at new id ≡ Some line) (others : (k : EventId) → is_at id k ≡ false → line_at new k ≡ line_at old k) (keeps : Keeps line_of id_of old rs) where
@@ -75,8 +54,4 @@ module _ {R : Type 0} (line_of : R → List ℕ) (id_of : R → EventId) where
 
   -- what is told of a line that isn't taken in
   pub told_after : (IsRecord : R → Type 0) (LineWhy : List ℕ → Why → Type 0) (seen : Seen) (rs : List R) (r : R) (id : EventId) (line : List ℕ) (w : Why) → IsRecord r → line ≡ line_of r → id_of r ≡ id → Keeps line_of id_of seen rs → (w ≡ why.Memory) ⊎ ((unwrap_or (line_at seen id) line ≢ line) × (w ≡ why.Conflict)) → OrMemory (AfterWhy line_of IsRecord id_of LineWhy rs line) w
-  told_after IsRecord LineWhy seen rs r id line w valid is_line is_id keeps (inl memory) = inl memory
-  told_after IsRecord LineWhy seen rs r id line w valid is_line is_id keeps (inr told) =
-      let other = other_line (line_at seen id) line told.0 in
-      let was = keeps.only id other.0 other.1 in
-      inr (inr ((was.0, r, was.1, valid, is_line, was.2 ∙ sym is_id, λ same. other.2 (sym was.3 ∙ same)), told.1))
+  told_after IsRecord LineWhy seen rs r id line w valid is_line is_id keeps h = grind arith

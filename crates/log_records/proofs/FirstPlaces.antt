@@ -4,7 +4,7 @@ use Rattle.std.specs.Prelude.{if◌then◌else◌}
 use Rattle.std.specs.Option.{option_or}
 use Rattle.std.proofs.lemmas.Bool.{cases_Bool}
 use Rattle.std.proofs.lemmas.Bool.Decides.{nat_tests}
-use Rattle.std.proofs.lemmas.Option.{same_Some, none-some}
+use Rattle.std.proofs.lemmas.Option.{none-some}
 use Rattle.std.proofs.lemmas.List.Elements.{Contains-append_cases}
 use Rattle.event_id.specs.declared.id.EventId.{EventId}
 use Rattle.std.proofs.lemmas.List.{length-append}
@@ -20,16 +20,13 @@ at_itself : (x : EventId) → is_at x x ≡ true
 at_itself x = grind (arith, nat_tests)
 
 by_test : (b : Bool) (p q : ℕ) (o : Option ℕ) → (if b then Some p else o) ≡ Some q → ((b ≡ true) × (p ≡ q)) ⊎ ((b ≡ false) × (o ≡ Some q))
-by_test true p q o e = inl (refl, same_Some p q e)
-by_test false p q o e = inr (refl, e)
+by_test b p q o e = grind arith
 
 none_by_test : (b : Bool) (p : ℕ) (o : Option ℕ) → (if b then Some p else o) ≡ None → (b ≡ false) × (o ≡ None)
-none_by_test true p o e = absurd (none-some p (sym e))
-none_by_test false p o e = (refl, e)
+none_by_test b p o e = grind arith
 
 either_by_test : (b : Bool) (p : ℕ) (new old more : Option ℕ) → new ≡ option_or old more → (if b then Some p else new) ≡ option_or (if b then Some p else old) more
-either_by_test true p new old more e = refl
-either_by_test false p new old more e = e
+either_by_test b p new old more e = grind arith
 
 one_of : {R : Type 0} (r x : R) → Contains (r ∷ []) x → r ≡ x
 one_of r x (k, below, is) = let first : k ≡ 0 = omega arith in subst (λ (n : ℕ). get_or (r ∷ []) n x ≡ x) first is
@@ -66,14 +63,10 @@ module _ {R : Type 0} (line_of : R → List ℕ) (id_of : R → EventId) where
       (pushed (p + length (line_of x) + 1) xs r id ∙ ap (λ (n : ℕ). option_or (first_place line_of id_of (p + length (line_of x) + 1) xs id) (if is_at (id_of r) id then Some n else None)) there)
 
   first_stays : (o : Option ℕ) (n : ℕ) (b : Bool) → b ≡ true → Some (unwrap_or o n) ≡ option_or o (if b then Some n else None)
-  first_stays None n true e = refl
-  first_stays None n false e = absurd cc
-  first_stays (Some x) n b e = refl
+  first_stays o n b e = grind arith
 
   others_stay : (o : Option ℕ) (n : ℕ) (b : Bool) → b ≡ false → o ≡ option_or o (if b then Some n else None)
-  others_stay None n true e = absurd cc
-  others_stay None n false e = refl
-  others_stay (Some x) n b e = refl
+  others_stay o n b e = grind arith
 
   module _ (old new : Places) (rs : List R) (r : R) (id : EventId) (place : ℕ) (is_id : id_of r ≡ id) (at : place ≡ length (whole (map line_of rs))) (kept : place_at new id ≡ Some (unwrap_or (place_at old id) place)) (others : (k : EventId) → is_at id k ≡ false → place_at new k ≡ place_at old k) (keeps : Keeps line_of id_of old rs) where
     each : (k : EventId) → place_at new k ≡ first_place line_of id_of 0 (rs ++ r ∷ []) k

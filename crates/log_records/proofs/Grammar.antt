@@ -28,14 +28,11 @@ has_space front rest = (length front, omega (arith, length-append front (space �
 
 -- nothing is wrong with a text
 text_right : (text : List ℕ) (w : Why) → IsText text → TextWhy text w → ⊥
-text_right text w h (inl d) = d.0 h.len
-text_right text w h (inr (d, inl e)) = e.0 h.bytes
-text_right text w h (inr (d, inr (e, f))) = f
+text_right text w h k = grind arith
 
 -- nothing is wrong with a line of the grammar
 pub query_right : (line : List ℕ) (q : QueryRec) (w : Why) → IsQuery q → line ≡ query_line q → QueryWhy line w → ⊥
-query_right line q w h e (inl d) =
-    d.0 (omega (arith, ap length e, length-append (spell q.id) (space ∷ q.text), length-spell-le q.id h.id, h.text.len))
+query_right line q w h e (inl d) = grind (arith, length-append, length-spell-le)
 query_right line q w h e (inr (long, inl d)) = d.0 (subst (λ l. Contains l space) (sym e) (has_space (spell q.id) q.text))
 query_right line q w h e (inr (long, inr (some, inl d))) = d.0 (q.id, h.id, ap head e ∙ head_is (spell q.id) q.text (spell_lacks space q.id (omega arith) h.id))
 query_right line q w h e (inr (long, inr (some, inr (id, t)))) =
@@ -49,8 +46,7 @@ click_tail : (line : List ℕ) (c : ClickRec) → IsClick c → line ≡ click_l
 click_tail line c h e = ap tail e ∙ tail_is (spell c.id) (rest_of c) (spell_lacks space c.id (omega arith) h.id)
 
 pub click_right : (line : List ℕ) (c : ClickRec) (w : Why) → IsClick c → line ≡ click_line c → ClickWhy line w → ⊥
-click_right line c w h e (inl d) =
-    d.0 (omega (arith, ap length e, length-append (spell c.id) (space ∷ rest_of c), length-append (spell c.query) (space ∷ c.text), length-spell-le c.id h.id, length-spell-le c.query h.query, h.text.len))
+click_right line c w h e (inl d) = grind (arith, length-append, length-spell-le)
 click_right line c w h e (inr (long, inl d)) =
     d.0 (subst (λ l. Contains l space) (sym e) (has_space (spell c.id) (rest_of c)), subst (λ l. Contains l space) (sym (click_tail line c h e)) (has_space (spell c.query) c.text))
 click_right line c w h e (inr (long, inr (some, inl d))) = d.0 (c.id, h.id, ap head e ∙ head_is (spell c.id) (rest_of c) (spell_lacks space c.id (omega arith) h.id))

@@ -1,5 +1,5 @@
 -- The check of a log, line by line.
-use Rattle.std.proofs.Common.{◌≡◌, ◌⊎◌, inl, inr, ℕ, ◌+◌, ◌-◌, ◌<◌, ◌≤◌, List, [], ◌∷◌, ◌++◌, length, map, refl, sym, ap, subst, ◌∙◌, arith}
+use Rattle.std.proofs.Common.{◌≡◌, ◌⊎◌, inl, inr, ℕ, ◌+◌, ◌-◌, ◌<◌, ◌≤◌, List, [], ◌∷◌, ◌++◌, length, map, refl, ap, ◌∙◌, arith}
 use Rattle.std.specs.List.{AllByRecursion}
 use Rattle.std.proofs.lemmas.List.{length-append}
 use Rattle.list_words.specs.Bytes.{Lacks}
@@ -28,9 +28,7 @@ module _ {R : Type 0} (line_of : R → List ℕ) (IsRecord : R → Type 0) (id_o
 
   -- what is told of the line behind n, which are m
   pub told_as : (log : List ℕ) (bad : BadLine) (n m : ℕ) (w : Why) → bad ≡ record { line = n + 1; why = w } → n ≡ m → (w ≡ why.Memory) ⊎ Refuses line_of IsRecord id_of LineWhy log (record { line = m + 1; why = w }) → (bad.why ≡ why.Memory) ⊎ Refuses line_of IsRecord id_of LineWhy log bad
-  told_as log bad n m w is number told =
-      let of : ℕ → BadLine = λ k. record { line = k + 1; why = w } in
-      subst (λ (b : BadLine). (b.why ≡ why.Memory) ⊎ Refuses line_of IsRecord id_of LineWhy log b) (sym (is ∙ ap of number)) told
+  told_as log bad n m w is number told = grind arith
 
   module _ (log rest : List ℕ) (seen : Seen) (rs : List R) (so_far : SoFar log rest seen rs) where
     sound : AreRecords line_of IsRecord id_of rs
@@ -54,13 +52,7 @@ module _ {R : Type 0} (line_of : R → List ℕ) (IsRecord : R → Type 0) (id_o
       end_is = omega (arith, ap length bytes_next, length-append (whole (map line_of rs)) (line ++ line_feed ∷ after), length-append line (line_feed ∷ after))
 
       pub line_too_big : Lacks line_feed line → MAX_LOG < length log - length after → Refuses line_of IsRecord id_of LineWhy log (record { line = length rs + 1; why = why.TooBig })
-      line_too_big none long = record {
-        earlier = rs;
-        records = sound;
-        fits = so_far.fits;
-        number = refl;
-        told = inl (line, after, bytes_next, none, inl (λ lt. absurd (omega (arith, end_is)), refl));
-      }
+      line_too_big none long = grind (arith, end_is)
 
       pub line_bad : (w : Why) → Lacks line_feed line → length log - length after ≤ MAX_LOG → OrMemory (AfterWhy line_of IsRecord id_of LineWhy rs line) w → (w ≡ why.Memory) ⊎ Refuses line_of IsRecord id_of LineWhy log (record { line = length rs + 1; why = w })
       line_bad w none short (inl memory) = inl memory

@@ -10,7 +10,7 @@ use Rattle.log_records.specs.declared.records.ClickRec.{ClickRec}
 use Rattle.log_records.specs.Line.{query_line, click_line, IsQuery, IsClick}
 use Rattle.log_records.proofs.Grammar.{query_same, click_same}
 use Rattle.log_records.specs.Log.{line_feed, whole, HasLines}
-use Rattle.log_records.specs.Lines.{ClickLine, placed, end_from, Follow, NoConflict, QueriesBegin, LinesBegin, LinesFollow, IsInLog, LinesStand, LinesEnd}
+use Rattle.log_records.specs.Lines.{ClickLine, placed, end_from, Follow, QueriesBegin, LinesBegin, LinesFollow, IsInLog, LinesStand, LinesEnd}
 use Rattle.log_records.proofs.Reading.{one_more, query_lacks, click_lacks}
 
 -- ---- longer logs
@@ -19,10 +19,7 @@ module _ {R : Type 0} (line : R → List ℕ) (P : R → Type 0) (lacks : (r : R
   records_begin : (rs ss : List R) (tail rest : List ℕ) → AllByRecursion P rs → AllByRecursion P ss → Lacks line_feed rest → whole (map line rs) ++ tail ≡ whole (map line ss) ++ rest → Begins rs ss
   records_begin [] ss tail rest h k none e = (ss, refl)
   records_begin (r ∷ rs) [] tail rest h k none e = absurd (lacks_none line_feed (line r) (whole (map line rs) ++ tail) (subst (Lacks line_feed) (sym e ∙ one_more (line r) (map line rs) tail) none))
-  records_begin (r ∷ rs) (s ∷ ss) tail rest h k none e =
-      let parts = split_same line_feed (line r) (whole (map line rs) ++ tail) (line s) (whole (map line ss) ++ rest) (lacks r h.0) (lacks s k.0) (sym (one_more (line r) (map line rs) tail) ∙ e ∙ one_more (line s) (map line ss) rest) in
-      let after = records_begin rs ss tail rest h.1 k.1 none parts.1 in
-      (after.0, ap (λ (x : R). x ∷ ss) (sym (same r s h.0 k.0 parts.0)) ∙ ap (λ (xs : List R). r ∷ xs) after.1)
+  records_begin (r ∷ rs) (s ∷ ss) tail rest h k none e = grind (arith, split_same, one_more, records_begin rs ss tail rest h.1 k.1 none)
 
   log_begins : (log more : List ℕ) (rs ss : List R) → AllByRecursion P rs → AllByRecursion P ss → HasLines log (map line rs) → HasLines (log ++ more) (map line ss) → Begins rs ss
   log_begins log more rs ss h k p q = records_begin rs ss (p.0 ++ more) q.0 h k q.2 (sym (append_assoc (whole (map line rs)) p.0 more) ∙ ap (λ (x : List ℕ). x ++ more) (sym p.1) ∙ q.1)
@@ -53,14 +50,10 @@ placed_contains p (c ∷ cs) l (inl e) = (0, omega arith, ap (λ (y : ClickLine)
 placed_contains p (c ∷ cs) l (inr m) = let h = placed_contains (suc (p + length (click_line c))) cs l m in let lt = h.1 in (suc h.0, omega arith, h.2)
 
 pub lines_follow : LinesFollow
-lines_follow log ls h =
-    subst (λ (x : List ClickLine). Follow 0 x × NoConflict x) (sym h.lines) (placed_follow 0 h.clicks, λ l m a b e. h.holds.one l.click m.click (placed_contains 0 h.clicks l a) (placed_contains 0 h.clicks m b) e)
+lines_follow log ls h = grind (arith, placed_follow, placed_contains)
 
 longer : (c : ClickRec) (front : List ℕ) (p : ℕ) → length front ≡ p → length (front ++ (click_line c ++ line_feed ∷ [])) ≡ suc (p + length (click_line c))
-longer c front p len =
-    let a = length-append front (click_line c ++ line_feed ∷ []) in
-    let b = length-append (click_line c) (line_feed ∷ []) in
-    omega arith
+longer c front p len = grind (arith, length-append)
 
 -- the lines of a list stand behind some bytes
 module _ (log : List ℕ) where

@@ -1,5 +1,5 @@
 -- A log holds the records of one list.
-use Rattle.std.proofs.Common.{◌≡◌, ℕ, List, [], ◌∷◌, ◌++◌, map, refl, sym, ap, subst, ◌∙◌, append_assoc, arith}
+use Rattle.std.proofs.Common.{◌≡◌, ℕ, List, [], ◌∷◌, ◌++◌, map, refl, sym, subst, ◌∙◌, append_assoc, arith}
 use Rattle.std.specs.List.{AllByRecursion}
 use Rattle.std.proofs.lemmas.List.Elements.{recursion_from_All}
 use Rattle.list_words.specs.Bytes.{Lacks}
@@ -20,9 +20,7 @@ lines_same : (ls ks : List (List ℕ)) (r s : List ℕ) → AllByRecursion (Lack
 lines_same [] [] r s p q u v e = refl
 lines_same [] (k ∷ ks) r s p q u v e = absurd (lacks_none line_feed k (whole ks ++ s) (subst (Lacks line_feed) (e ∙ one_more k ks s) u))
 lines_same (l ∷ ls) [] r s p q u v e = absurd (lacks_none line_feed l (whole ls ++ r) (subst (Lacks line_feed) (sym e ∙ one_more l ls r) v))
-lines_same (l ∷ ls) (k ∷ ks) r s p q u v e =
-    let parts = split_same line_feed l (whole ls ++ r) k (whole ks ++ s) p.0 q.0 (sym (one_more l ls r) ∙ e ∙ one_more k ks s) in
-    ap (λ (x : List ℕ). x ∷ ls) parts.0 ∙ ap (λ (xs : List (List ℕ)). k ∷ xs) (lines_same ls ks r s p.1 q.1 u v parts.1)
+lines_same (l ∷ ls) (k ∷ ks) r s p q u v e = grind (arith, split_same, one_more, lines_same ls ks r s p.1 q.1 u v)
 
 printable_lacks : (text : List ℕ) → AllByRecursion IsPrintable text → Lacks line_feed text
 printable_lacks [] h = tt
@@ -46,14 +44,10 @@ records_same : {R : Type 0} (line : R → List ℕ) (P : R → Type 0) → ((r s
 records_same line P same [] [] h k e = refl
 records_same line P same [] (s ∷ ss) h k e = absurd cc
 records_same line P same (r ∷ rs) [] h k e = absurd cc
-records_same {R} line P same (r ∷ rs) (s ∷ ss) h k e =
-    let here : line r ≡ line s = cc in
-    let there : map line rs ≡ map line ss = cc in
-    ap (λ (x : R). x ∷ rs) (same r s h.0 k.0 here) ∙ ap (λ (xs : List R). s ∷ xs) (records_same line P same rs ss h.1 k.1 there)
+records_same {R} line P same (r ∷ rs) (s ∷ ss) h k e = grind (arith, records_same line P same rs ss h.1 k.1)
 
 log_same : {R : Type 0} (line : R → List ℕ) (P : R → Type 0) → ((r : R) → P r → Lacks line_feed (line r)) → ((r s : R) → P r → P s → line r ≡ line s → r ≡ s) → (log : List ℕ) (rs ss : List R) → AllByRecursion P rs → AllByRecursion P ss → HasLines log (map line rs) → HasLines log (map line ss) → rs ≡ ss
-log_same line P lacks same log rs ss h k p q =
-    records_same line P same rs ss h k (lines_same (map line rs) (map line ss) p.0 q.0 (all_lack line P lacks rs h) (all_lack line P lacks ss k) p.2 q.2 (sym p.1 ∙ q.1))
+log_same line P lacks same log rs ss h k p q = grind (arith, records_same, lines_same, all_lack)
 
 pub queries_same : (log : List ℕ) (qs rs : List QueryRec) → HoldsQueries log qs → HoldsQueries log rs → qs ≡ rs
 queries_same log qs rs h k = log_same query_line IsQuery query_lacks query_same log qs rs h.each k.each h.lines k.lines

@@ -1,5 +1,5 @@
 -- What a check of either kind says of a log of queries and of one of clicks.
-use Rattle.std.proofs.Common.{◌≡◌, ◌⊎◌, inl, inr, ℕ, ◌≤◌, List, [], ◌∷◌, ◌++◌, length, map, Contains, Result, Ok, Err, refl, sym, ap, subst, ◌∙◌, arith}
+use Rattle.std.proofs.Common.{◌≡◌, ◌⊎◌, inl, inr, ℕ, ◌≤◌, List, [], ◌∷◌, ◌++◌, length, map, Contains, Result, refl, sym, ap, subst, ◌∙◌, arith}
 use Rattle.std.specs.Prelude.{IfOk, IfErr, MatchResult}
 use Rattle.std.specs.List.{AllByRecursion}
 use Rattle.std.proofs.lemmas.List.{length-append}
@@ -25,28 +25,19 @@ module _ {R : Type 0} (line_of : R → List ℕ) (IsRecord : R → Type 0) (id_o
 
   -- records of a log that are known by their lines
   pub holds_from : (log : List ℕ) (rs : List R) → IsLog line_of IsRecord id_of log rs → Holds line_of IsRecord id_of log rs
-  holds_from log rs h = record {
-    lines = h.lines;
-    each = h.records.each;
-    one = λ r s a b e. same r s (valid_at rs h.records.each r a) (valid_at rs h.records.each s b) (h.records.one r s a b e);
-  }
+  holds_from log rs h = grind (arith, valid_at)
 
   module _ (LineWhy : List ℕ → Why → Type 0) (lacks : (r : R) → IsRecord r → Lacks line_feed (line_of r)) (right : (line : List ℕ) (r : R) (w : Why) → IsRecord r → line ≡ line_of r → LineWhy line w → ⊥) where
     -- the records before a place of the log begin its own, and the others are behind that place
     strip : (earlier all : List R) (behind rest : List ℕ) → AllByRecursion IsRecord earlier → AllByRecursion IsRecord all → Lacks line_feed rest → whole (map line_of earlier) ++ behind ≡ whole (map line_of all) ++ rest → (left : List R) × (all ≡ earlier ++ left) × (behind ≡ whole (map line_of left) ++ rest)
     strip [] all behind rest h k none e = (all, refl, e)
     strip (r ∷ rs) [] behind rest h k none e = absurd (lacks_none line_feed (line_of r) (whole (map line_of rs) ++ behind) (subst (Lacks line_feed) (sym e ∙ one_more (line_of r) (map line_of rs) behind) none))
-    strip (r ∷ rs) (s ∷ ss) behind rest h k none e =
-        let parts = split_same line_feed (line_of r) (whole (map line_of rs) ++ behind) (line_of s) (whole (map line_of ss) ++ rest) (lacks r h.0) (lacks s k.0) (sym (one_more (line_of r) (map line_of rs) behind) ∙ e ∙ one_more (line_of s) (map line_of ss) rest) in
-        let after = strip rs ss behind rest h.1 k.1 none parts.1 in
-        (after.0, ap (λ (x : R). x ∷ ss) (sym (same r s h.0 k.0 parts.0)) ∙ ap (λ (xs : List R). r ∷ xs) after.1, after.2)
+    strip (r ∷ rs) (s ∷ ss) behind rest h k none e = grind (arith, split_same, one_more, strip rs ss behind rest h.1 k.1 none)
 
     -- the line behind them is that of the next record
     next_is : (left : List R) (line after rest : List ℕ) → ((r : R) → Contains left r → IsRecord r) → Lacks line_feed line → Lacks line_feed rest → line ++ line_feed ∷ after ≡ whole (map line_of left) ++ rest → (s : R) × Contains left s × (line ≡ line_of s)
     next_is [] line after rest valid whole_line none e = absurd (lacks_none line_feed line after (subst (Lacks line_feed) (sym e) none))
-    next_is (s ∷ ss) line after rest valid whole_line none e =
-        let among : Contains (s ∷ ss) s = (0, omega arith, refl) in
-        (s, among, (split_same line_feed line after (line_of s) (whole (map line_of ss) ++ rest) whole_line (lacks s (valid s among)) (e ∙ one_more (line_of s) (map line_of ss) rest)).0)
+    next_is (s ∷ ss) line after rest valid whole_line none e = grind (arith, split_same, one_more)
 
     module _ (log : List ℕ) (all : List R) (h : Holds line_of IsRecord id_of log all) (fits : length log ≤ MAX_LOG) (earlier : List R) (each : AllByRecursion IsRecord earlier) where
       -- nothing is wrong with a line of the log
@@ -90,6 +81,4 @@ clicks_found log cs h = (holds_from click_line IsClick (λ c. c.id) click_same l
 
 -- where a log of records is not answered by what they are, memory ran out
 pub only_answer : {T : Type 0} (r : Result T BadLine) (P : T → Type 0) (Refused : BadLine → Type 0) → IfOk r P → IfErr r (λ bad. (bad.why ≡ why.Memory) ⊎ Refused bad) → ((bad : BadLine) → Refused bad → ⊥) → MatchResult r P (λ bad. bad.why ≡ why.Memory)
-only_answer (Ok x) P Refused found refused none = found
-only_answer (Err bad) P Refused found (inl memory) none = memory
-only_answer (Err bad) P Refused found (inr told) none = absurd (none bad told)
+only_answer r P Refused found refused none = grind arith

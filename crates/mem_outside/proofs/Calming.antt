@@ -1,14 +1,10 @@
 -- A list whose disks are calmed from its front on.
-use Rattle.std.proofs.Common.{◌≡◌, ◌∙◌, ◌⊎◌, inl, inr, true, ◌≤◌, ◌<◌, ℕ, zero, suc, ◌+◌, List, [], ◌∷◌, length, get_or, refl, sym, ap, subst, arith, add-one}
-use Rattle.std.specs.Prelude.{Bool, false, Some, if◌then◌else◌}
+use Rattle.std.proofs.Common.{◌≡◌, ◌≤◌, ◌<◌, ℕ, zero, suc, ◌+◌, List, [], ◌∷◌, length, get_or, refl, sym, ap, subst, arith, add-one}
+use Rattle.std.specs.Prelude.{false}
 use Rattle.std.proofs.Math.ListN.{set}
 use Rattle.outside.specs.declared.store.DiskName.{DiskName}
 use Rattle.mem_outside.specs.declared.store.Kept.{Kept}
-use Rattle.mem_outside.specs.declared.disk.Fuse.{Fuse}
-use Rattle.mem_outside.specs.declared.contents.Contents.{Contents}
-use Rattle.mem_outside.specs.Past.{HasImage}
-use Rattle.mem_outside.specs.Plan.{is_planned}
-use Rattle.mem_outside.specs.Kept.{AreCalmed, IsCalmed, ImageIn, disk_of, made_in, same_name, stops_in}
+use Rattle.mem_outside.specs.Kept.{AreCalmed, IsCalmed, ImageIn, disk_of, made_in, stops_in}
 
 -- the first i are calmed, and from there on the lists are the same
 abbrev pub FirstCalmed : ℕ → List Kept → List Kept → Type 0
@@ -43,43 +39,21 @@ first_all (suc i) [] ys so le = subst (AreCalmed []) (sym so) tt
 first_all (suc i) (x ∷ xs) [] so le = absurd so
 first_all (suc i) (x ∷ xs) (y ∷ ys) so le = (so.0, first_all i xs ys so.1 (omega (arith, le)))
 
-cases_bool : (b : Bool) → (b ≡ true) ⊎ (b ≡ false)
-cases_bool true = inl refl
-cases_bool false = inr refl
-
 -- none of their calls is planned to fail
 pub calm_stops : (xs ys : List Kept) → AreCalmed xs ys → (name : DiskName) (call : ℕ) → stops_in [] name (disk_of ys name) call ≡ false
 calm_stops [] [] so name call = refl
 calm_stops [] (y ∷ ys) so name call = absurd so
 calm_stops (x ∷ xs) [] so name call = absurd so
-calm_stops (x ∷ xs) (y ∷ ys) so name call = elim (cases_bool (same_name y.name name)) [
-  | inl is ↦ rw is (ap (λ (f : List Fuse). is_planned f call) so.0.fuses)
-  | inr not ↦ rw not (calm_stops xs ys so.1 name call)
-]
-
--- a stop leaves of them what it left
-image_or : (b : Bool) (x y : Kept) (xs ys : List Kept) (name : DiskName) (c : List ℕ) → IsCalmed x y → (ImageIn (disk_of ys name) c → ImageIn (disk_of xs name) c)
-    → ImageIn (if b then Some y.disk else disk_of ys name) c → ImageIn (if b then Some x.disk else disk_of xs name) c
-image_or true x y xs ys name c is rest h = subst (λ (k : Contents). HasImage k.calls.items k.bytes.items c) is.contents h
-image_or false x y xs ys name c is rest h = rest h
+calm_stops (x ∷ xs) (y ∷ ys) so name call = grind (arith, calm_stops xs ys so.1 name call)
 
 pub calm_images : (xs ys : List Kept) → AreCalmed xs ys → (name : DiskName) (c : List ℕ) → ImageIn (disk_of ys name) c → ImageIn (disk_of xs name) c
 calm_images [] [] so name c h = h
 calm_images [] (y ∷ ys) so name c h = absurd so
 calm_images (x ∷ xs) [] so name c h = absurd so
-calm_images (x ∷ xs) (y ∷ ys) so name c h =
-    let same : ImageIn (if same_name x.name name then Some y.disk else disk_of ys name) c = subst (λ (n : DiskName). ImageIn (if same_name n name then Some y.disk else disk_of ys name) c) so.0.name h in
-    image_or (same_name x.name name) x y xs ys name c so.0 (calm_images xs ys so.1 name c) same
-
--- as many of their calls were made
-made_or : (b : Bool) (x y : Kept) (xs ys : List Kept) (name : DiskName) → IsCalmed x y → made_in (disk_of ys name) ≡ made_in (disk_of xs name)
-    → made_in (if b then Some y.disk else disk_of ys name) ≡ made_in (if b then Some x.disk else disk_of xs name)
-made_or true x y xs ys name is rest = is.made
-made_or false x y xs ys name is rest = rest
+calm_images (x ∷ xs) (y ∷ ys) so name c h = grind (arith, calm_images xs ys so.1 name c)
 
 pub calm_made : (xs ys : List Kept) → AreCalmed xs ys → (name : DiskName) → made_in (disk_of ys name) ≡ made_in (disk_of xs name)
 calm_made [] [] so name = refl
 calm_made [] (y ∷ ys) so name = absurd so
 calm_made (x ∷ xs) [] so name = absurd so
-calm_made (x ∷ xs) (y ∷ ys) so name =
-    ap (λ (n : DiskName). made_in (if same_name n name then Some y.disk else disk_of ys name)) so.0.name ∙ made_or (same_name x.name name) x y xs ys name so.0 (calm_made xs ys so.1 name)
+calm_made (x ∷ xs) (y ∷ ys) so name = grind (arith, calm_made xs ys so.1 name)

@@ -1,12 +1,10 @@
 -- The record of calls, one call more, and what the state after it is.
-use Rattle.std.proofs.Common.{◌≡◌, ℕ, zero, suc, ◌+◌, ◌-◌, ◌≤◌, min, max, List, [], ◌∷◌, ◌++◌, length, take, drop, refl, sym, ◌∙◌, ap, subst, arith, append_assoc, length-append}
-use Rattle.std.specs.Prelude.{replicate}
+use Rattle.std.proofs.Common.{◌≡◌, ℕ, zero, suc, ◌+◌, ◌≤◌, min, max, List, [], ◌∷◌, ◌++◌, length, take, drop, refl, sym, ◌∙◌, ap, arith, append_assoc, length-append}
 use Rattle.std.proofs.lemmas.List.{take-append-le, length-replicate, take_at, drop_at, take-append-drop, length-take-le, length-drop}
 use Rattle.outside.specs.Disk.{Torn}
 use Rattle.mem_outside.specs.declared.call.Call.{Call}
 use Rattle.mem_outside.specs.declared.call.Call.TheVariants.{Write, Sync, FailedSync, Reopen}
 use Rattle.outside.specs.declared.image.Image.{Image}
-use Rattle.outside.specs.declared.image.Image.TheVariants.{Old, New, Noise}
 use Rattle.mem_outside.specs.Past.{put, State, settled, after_write, image_to_take, after, bytes_of, replay, total, state_after, IsImage}
 
 take_front : (n : ℕ) (xs ys : List ℕ) → n ≤ length xs → take n (xs ++ ys) ≡ take n xs
@@ -19,10 +17,7 @@ drop_front n xs ys le =
 
 -- a call's bytes are those in front
 pub after_front : (s : State) (call : Call) (bytes more : List ℕ) → bytes_of call ≤ length bytes → after s call (bytes ++ more) ≡ after s call bytes
-after_front s (Write at n) bytes more le = ap (after_write s (min at (length s.written))) (take_front n bytes more le)
-after_front s Sync bytes more le = refl
-after_front s FailedSync bytes more le = refl
-after_front s (Reopen image) bytes more le = refl
+after_front s call bytes more le = grind (arith, take_front)
 
 -- bytes behind those of the calls change nothing
 pub replay_front : (s : State) (calls : List Call) (bytes more : List ℕ) → total calls ≤ length bytes → replay s calls (bytes ++ more) ≡ replay s calls bytes
@@ -54,17 +49,7 @@ total_take (suc k) (c ∷ calls) = omega (arith, total_take k calls)
 
 -- a write in place is one of those that a stop may cut short
 pub put_torn : (old : List ℕ) (at : ℕ) (bytes : List ℕ) → at ≤ length old → Torn at (length bytes) old (put old at bytes)
-put_torn old at bytes le =
-    let front = take at old in
-    let back = drop (at + length bytes) old in
-    let long : length front ≡ at = length-take-le at old le in
-    let size : length (put old at bytes) ≡ at + length bytes + (length old - (at + length bytes)) = omega (arith, long, length-append (front ++ bytes) back, length-append front bytes, length-drop (at + length bytes) old) in
-    record {
-      before = ap (take at) (append_assoc front bytes back) ∙ take_at front (bytes ++ back) at long;
-      after = drop_at (front ++ bytes) back (at + length bytes) (omega (arith, long, length-append front bytes));
-      no_shorter = omega (arith, size);
-      no_longer = omega (arith, size);
-    }
+put_torn old at bytes le = grind (arith, length-take-le, length-append, length-drop, append_assoc, take_at, drop_at)
 
 -- nothing of the write is on the disk
 pub same_torn : (old : List ℕ) (at n : ℕ) → Torn at n old old
@@ -82,19 +67,10 @@ pub settled_good : (bytes : List ℕ) → IsGood (settled bytes)
 settled_good bytes = record { synced = refl; written = refl; noise = refl; as_long = refl; no_shorter = omega arith }
 
 pub length-put : (old : List ℕ) (at : ℕ) (bytes : List ℕ) → at ≤ length old → length (put old at bytes) ≡ max (length old) (at + length bytes)
-length-put old at bytes le =
-    omega (arith, length-take-le at old le, length-append (take at old ++ bytes) (drop (at + length bytes) old), length-append (take at old) bytes, length-drop (at + length bytes) old)
+length-put old at bytes le = grind (arith, length-take-le, length-append, length-drop)
 
 write_good : (s : State) (at : ℕ) (bytes : List ℕ) → at ≤ length s.written → IsGood s → IsGood (after_write s at bytes)
-write_good s at bytes le good =
-    let n : length (replicate (length bytes) 90) ≡ length bytes = length-replicate (length bytes) 90 in
-    record {
-      synced = (s.synced, good.synced, same_torn s.synced at (length bytes));
-      written = (s.written, good.written, put_torn s.written at bytes le);
-      noise = (s.noise, good.noise, subst (λ (k : ℕ). Torn at k s.noise (put s.noise at (replicate (length bytes) 90))) n (put_torn s.noise at (replicate (length bytes) 90) (omega (arith, good.as_long))));
-      as_long = omega (arith, n, length-put s.noise at (replicate (length bytes) 90) (omega (arith, good.as_long)), length-put s.written at bytes le, good.as_long);
-      no_shorter = omega (arith, length-put s.written at bytes le, good.no_shorter);
-    }
+write_good s at bytes le good = grind (arith, length-replicate, same_torn, put_torn, length-put)
 
 pub after_good : (s : State) (call : Call) (bytes : List ℕ) → IsGood s → IsGood (after s call bytes)
 after_good s (Write at n) bytes good = write_good s (min at (length s.written)) (take n bytes) (omega arith) good
@@ -110,6 +86,4 @@ pub state_good : (calls : List Call) (bytes : List ℕ) → IsGood (state_after 
 state_good calls bytes = replay_good (settled []) calls bytes (settled_good [])
 
 pub taken_is_image : (image : Image) (s : State) → IsGood s → IsImage s.synced s.ranges (image_to_take image s)
-taken_is_image Old s good = good.synced
-taken_is_image New s good = good.written
-taken_is_image Noise s good = good.noise
+taken_is_image image s good = grind arith

@@ -1,5 +1,5 @@
 -- What each call of a disk in memory leaves.
-use Rattle.std.proofs.Common.{◌≡◌, ℕ, ◌≤◌, min, List, [], ◌∷◌, ◌++◌, length, take, Bool, true, false, sym, ◌∙◌, ap, subst, arith, Result, Ok, Err}
+use Rattle.std.proofs.Common.{◌≡◌, ℕ, ◌≤◌, min, List, [], ◌∷◌, ◌++◌, length, take, Bool, false, sym, ◌∙◌, ap, subst, arith, Result}
 use Rattle.std.specs.Result.{is_err, OnOk}
 use Rattle.std.proofs.lemmas.List.{append-nil, take_all}
 use Rattle.outside.specs.Disk.{Torn, Follows, Within, Only, Elapses}
@@ -15,8 +15,7 @@ use Rattle.mem_outside.proofs.Time.{ImageOf, state_is, no_call, one_call}
 
 -- at `Ok`, where a test says whether there is an error
 pub on_ok : {T E : Type 0} (r : Result T E) (failed : Bool) (P : Type 0) → is_err r ≡ failed → (failed ≡ false → P) → OnOk r P
-on_ok (Ok x) failed P is known = known (sym is)
-on_ok (Err e) failed P is known = tt
+on_ok r failed P is known = grind arith
 
 -- what contracts see of the disk
 abbrev pub seen_by : MemDisk → List ℕ
@@ -50,9 +49,7 @@ changed_alone old new call calls bytes = changed old new call [] calls (bytes �
 -- the same of the contents alone
 module _ (old new : Contents) (call : Call) (wrote : List ℕ) (calls : new.calls.items ≡ old.calls.items ++ call ∷ []) (bytes : new.bytes.items ≡ old.bytes.items ++ wrote) where
   pub state_now : state_after new.calls.items new.bytes.items ≡ after (state_after old.calls.items old.bytes.items) call wrote
-  state_now =
-      ap (λ (l : List Call). state_after l new.bytes.items) calls ∙ ap (λ (l : List ℕ). state_after (old.calls.items ++ call ∷ []) l) bytes
-      ∙ state_is old.calls.items call old.bytes.items wrote old.tied.sizes
+  state_now = grind (arith, state_is)
 
   pub image_now : (c : List ℕ) → HasImage new.calls.items new.bytes.items c → ImageOf (after (state_after old.calls.items old.bytes.items) call wrote) c
   image_now c has = subst (λ (s : State). ImageOf s c) state_now has
@@ -80,12 +77,10 @@ module _ (old new : Contents) where
 
     -- a sync, or one that fails
     pub noted_within : (failed : Bool) → new.calls.items ≡ old.calls.items ++ noted_sync failed ∷ [] → Within (HasImage old.calls.items old.bytes.items) (HasImage new.calls.items new.bytes.items)
-    noted_within true calls = failed_within calls
-    noted_within false calls = sync_within calls
+    noted_within failed calls = grind (arith, failed_within, sync_within)
 
     pub noted_only : (failed : Bool) → new.calls.items ≡ old.calls.items ++ noted_sync failed ∷ [] → failed ≡ false → Only old.written.items (HasImage new.calls.items new.bytes.items)
-    noted_only true calls is = absurd (cc)
-    noted_only false calls is = sync_only calls
+    noted_only failed calls is = grind (arith, sync_only)
 
     pub reopen_only : (image : Image) → new.calls.items ≡ old.calls.items ++ Reopen image ∷ [] → Only new.written.items (HasImage new.calls.items new.bytes.items)
     reopen_only image calls c has =

@@ -10,7 +10,7 @@ use Rattle.mem_outside.specs.Past.{put, chosen, State, settled, after_write, aft
 use Rattle.mem_outside.specs.Unsynced.{IsUnsynced, IsTaken}
 use Rattle.mem_outside.proofs.Replay.{total_push}
 use Rattle.mem_outside.proofs.Time.{state_is}
-use Rattle.mem_outside.proofs.Unwritten.{all_synced, unsynced_fail, unsynced_write, taken_is}
+use Rattle.mem_outside.proofs.Unwritten.{unsynced_fail, unsynced_write, taken_is}
 
 -- the contents are those of the record, of which the calls from `clean` on came after the last sync
 pub record IsRecorded (clean : ℕ) (calls : List Call) (bytes synced written : List ℕ) : Type 0 where
@@ -43,9 +43,6 @@ module _ (clean : ℕ) (calls : List Call) (bytes synced written : List ℕ) (is
   }
 
 module _ (clean : ℕ) (calls : List Call) (bytes synced written : List ℕ) (within : clean ≤ length calls) (is : IsRecorded clean calls bytes synced written) where
-  past : State
-  past = state_after calls bytes
-
   pub recorded_write : (at : ℕ) (wrote : List ℕ) → at ≤ length written → (calls' : List Call) (bytes' written' : List ℕ) → calls' ≡ calls ++ Write at (length wrote) ∷ [] → bytes' ≡ bytes ++ wrote → written' ≡ put written at wrote
       → IsRecorded clean calls' bytes' synced written'
   recorded_write at wrote le calls' bytes' written' c b w =
@@ -67,9 +64,7 @@ module _ (clean : ℕ) (calls : List Call) (bytes synced written : List ℕ) (wi
 
   -- all that is written is on the disk
   settles : (clean' : ℕ) (calls' : List Call) (synced' written' all : List ℕ) → clean' ≡ length calls' → synced' ≡ all → written' ≡ all → IsUnsynced (drop clean' calls') synced' written' all
-  settles clean' calls' synced' written' all end s w =
-      subst (λ (l : List Call). IsUnsynced l synced' written' all) (sym (drop_all clean' calls' (omega arith)))
-      (subst (λ (l : List ℕ). IsUnsynced [] l written' all) (sym s) (subst (λ (l : List ℕ). IsUnsynced [] all l all) (sym w) (all_synced all)))
+  settles clean' calls' synced' written' all end s w = grind (arith, drop_all)
 
   pub recorded_sync : (clean' : ℕ) (calls' : List Call) (synced' : List ℕ) → calls' ≡ calls ++ Sync ∷ [] → clean' ≡ length calls' → synced' ≡ written → IsRecorded clean' calls' bytes synced' written
   recorded_sync clean' calls' synced' c end s =

@@ -6,9 +6,8 @@ use Rattle.std.proofs.Math.Seq.{take-append-add}
 use Rattle.std.proofs.lemmas.Bool.{cases_lt}
 use Rattle.packet_codec.specs.Bad.{Reaches, IsBadAt}
 use Rattle.packet_codec.specs.Cells.{Cells}
-use Rattle.std.specs.Prelude.{Result, Ok, Err, IfErr, IsErrAnd}
+use Rattle.std.specs.Prelude.{Result, IfErr, IsErrAnd}
 use Rattle.packet_codec.specs.declared.fields.stop.Stop.{Stop}
-use Rattle.packet_codec.specs.declared.fields.stop.Stop.TheVariants.{Bad, Memory}
 use Rattle.packet_codec.specs.Stops.{IsBadBefore, Stops}
 
 -- fronts of two equal lists
@@ -123,14 +122,7 @@ bad_cell n Fits filler rest i fill lt le good wrong = record {
           (cases_lt k i);
     };
   };
-  furthest = λ k r. ⊎_elim
-      (λ a.
-      let long : i < length rest = let w = r.within in omega arith in
-      let w = r.within in
-      let same : get_or (take k rest ++ r.more) i 0 ≡ get_or rest i 0 = get_or_append_left (take k rest) r.more 0 i (omega (arith, length-take-le k rest w)) ∙ get_or-take k rest i 0 a in
-      absurd (wrong long (subst (Fits i) same (r.whole.each i lt))))
-      (λ b. b)
-      (cases_lt i k);
+  furthest = λ k r. grind (arith, get_or_append_left, length-take-le, get_or-take);
 }
 
 pub before_cell : (n : ℕ) (Fits : ℕ → ℕ → Type 0) (filler : ℕ) (rest : List ℕ) (i : ℕ)
@@ -144,18 +136,15 @@ before_cell n Fits filler rest i fill lt le good wrong = record { at = i; place 
 -- ---- what stopped a part stops the whole
 
 pub stops_on : (S T : List ℕ → Type 0) (rest whole : List ℕ) (stop : Stop) → ((left : ℕ) → IsBadBefore S rest left → IsBadBefore T whole left) → Stops S rest stop → Stops T whole stop
-stops_on S T rest whole (Bad left) on b = on left b
-stops_on S T rest whole Memory on b = tt
+stops_on S T rest whole stop on b = grind arith
 
 pub stops_same : (S T : List ℕ → Type 0) (rest : List ℕ) (stop : Stop) → ((z : List ℕ) → S z → T z) → ((z : List ℕ) → T z → S z) → Stops S rest stop → Stops T rest stop
 stops_same S T rest stop to from = stops_on S T rest rest stop (λ left. before_same S T rest left to from)
 
 -- in what is handed on as it is
 pub stops_through : {W : Type 0} (S T : List ℕ → Type 0) (rest whole : List ℕ) (r : Result W Stop) → ((left : ℕ) → IsBadBefore S rest left → IsBadBefore T whole left) → IfErr r (Stops S rest) → IfErr r (Stops T whole)
-stops_through S T rest whole (Ok x) on b = tt
-stops_through S T rest whole (Err d) on b = stops_on S T rest whole d on b
+stops_through S T rest whole r on b = grind arith
 
 -- at the exit of a `?`
 pub stopped : {W : Type 0} (T : List ℕ → Type 0) (whole : List ℕ) (stop : Stop) (r : Result W Stop) → IsErrAnd r (λ d. d ≡ stop) → Stops T whole stop → IfErr r (Stops T whole)
-stopped T whole stop (Ok x) is bad = tt
-stopped T whole stop (Err d) is bad = subst (Stops T whole) (sym is) bad
+stopped T whole stop r is bad = grind arith

@@ -4,7 +4,7 @@ use Rattle.std.specs.Prelude.{replicate}
 use Rattle.std.proofs.lemmas.List.{length-append, length-replicate, get_or-replicate, get_or_default, take_more}
 use Rattle.list_words.specs.Lists.{Each}
 use Rattle.log_records.specs.declared.text.TheConstants.{MAX_TEXT}
-use Rattle.log_records.specs.Text.{IsText, IsPrintable}
+use Rattle.log_records.specs.Text.{IsText}
 use Rattle.registry_state.specs.declared.TheConstants.{MOST_INSERTS}
 use Rattle.registry_state.specs.declared.Insert.{Insert}
 use Rattle.registry_state.specs.declared.Batch.{Batch}
@@ -14,16 +14,13 @@ use Rattle.packet_codec.specs.Cells.{Run}
 use Rattle.packet_codec.specs.Counted.{counted, AreCounted}
 use Rattle.packet_codec.specs.Stops.{IsBadBefore}
 use Rattle.packet_codec.proofs.BadPlaces.{front_same, before_same}
-use Rattle.packet_codec.proofs.PartLaws.{IsApart, IsSum, same_first, followed_first, followed_next}
+use Rattle.packet_codec.proofs.PartLaws.{IsApart, IsSum, followed_first, followed_next}
 
 -- ---- texts
 
 -- so many printable bytes are a text
 is_text : (n : ℕ) (z : List ℕ) → n ≤ MAX_TEXT → Run n 32 126 z → IsText z
-is_text n z few r = record {
-  len = omega (arith, r.len);
-  bytes = λ k d lt. subst IsPrintable (sym (get_or_default z k d 0 lt)) (r.each k (omega (arith, r.len)));
-}
+is_text n z few r = grind (arith, get_or_default)
 
 pub text_sum : IsSum 0 MAX_TEXT (λ n z. Run n 32 126 z) text IsText
 text_sum = record {
@@ -114,11 +111,7 @@ inserts_same : (apart : IsApart insert IsInsert) (xs ys : List Insert) (s t : Li
 inserts_same apart [] [] s t len p q e = refl
 inserts_same apart [] (y ∷ ys) s t len p q e = absurd (omega (arith, len))
 inserts_same apart (x ∷ xs) [] s t len p q e = absurd (omega (arith, len))
-inserts_same apart (x ∷ xs) (y ∷ ys) s t len p q e =
-    let f = same_first insert IsInsert x y (inserts xs ++ s) (inserts ys ++ t) apart p.0 q.0 (sym (append_assoc (insert x) (inserts xs) s) ∙ e ∙ append_assoc (insert y) (inserts ys) t) in
-    let same : x ≡ y = f.0 in
-    let rest : xs ≡ ys = inserts_same apart xs ys s t (omega (arith, len)) p.1 q.1 f.1 in
-    cc
+inserts_same apart (x ∷ xs) (y ∷ ys) s t len p q e = grind (arith, inserts_same apart xs ys s t)
 
 pub counted_apart : IsApart insert IsInsert → IsApart counted AreCounted
 counted_apart apart x y s t p q e = inserts_same apart x y s t (ap (λ (z : List ℕ). get_or z 0 0) e) p.each q.each (ap (drop 1) e)

@@ -54,11 +54,7 @@ pub token_apart : IsApart token IsToken
 token_apart = triple_apart _ _ _ _ _ _ _ _ _ token_made half_apart word_apart number_apart
 
 pub insert_made : IsPair packed IsId token IsToken insert IsInsert (λ id token. record { id = id; token = token })
-insert_made = record {
-  is = λ a b p q. record { id = p; token = q };
-  parts = λ t h. (t.id, t.token, h.id, h.token, refl);
-  spelled = λ a b. refl;
-}
+insert_made = grind arith
 
 pub insert_bad : (bytes : List ℕ) (stop : Stop) → Stops (Two packed IsId token IsToken) bytes stop → Stops (Spelled insert IsInsert) bytes stop
 insert_bad bytes stop = pair_bad _ _ _ _ _ _ _ bytes stop insert_made
@@ -109,11 +105,7 @@ pub batch_apart : IsApart batch IsBatch
 batch_apart = pair_apart _ _ _ _ _ _ _ batch_made number_apart inserts_apart
 
 pub query_made : IsPair packed IsId text IsText query IsQuery (λ id t. record { id = id; text = t })
-query_made = record {
-  is = λ a b p q. record { id = p; text = q };
-  parts = λ t h. (t.id, t.text, h.id, h.text, refl);
-  spelled = λ a b. refl;
-}
+query_made = grind arith
 
 pub query_bad : (bytes : List ℕ) (stop : Stop) → Stops (Two packed IsId text IsText) bytes stop → Stops (Spelled query IsQuery) bytes stop
 query_bad bytes stop = pair_bad _ _ _ _ _ _ _ bytes stop query_made
@@ -122,11 +114,7 @@ pub query_apart : IsApart query IsQuery
 query_apart = pair_apart _ _ _ _ _ _ _ query_made id_apart text_apart
 
 pub click_made : IsTriple packed IsId packed IsId text IsText click IsClick (λ id of t. record { id = id; query = of; text = t })
-click_made = record {
-  is = λ a b c p q r. record { id = p; query = q; text = r };
-  parts = λ t h. (t.id, t.query, t.text, h.id, h.query, h.text, refl);
-  spelled = λ a b c. refl;
-}
+click_made = grind arith
 
 pub click_bad : (bytes : List ℕ) (stop : Stop) → Stops (Three packed IsId packed IsId text IsText) bytes stop → Stops (Spelled click IsClick) bytes stop
 click_bad bytes stop = triple_bad _ _ _ _ _ _ _ _ _ bytes stop click_made

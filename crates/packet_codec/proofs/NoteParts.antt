@@ -1,8 +1,7 @@
 -- A replica's notes.
-use Rattle.std.proofs.Common.{◌≡◌, ℕ, zero, suc, ◌+◌, ◌≤◌, List, ◌∷◌, length, drop, get_or, refl, ap, arith}
+use Rattle.std.proofs.Common.{◌≡◌, ℕ, zero, suc, ◌+◌, ◌≤◌, List, ◌∷◌, length, refl, ap, arith}
 use Rattle.registry_state.specs.declared.TheConstants.{MOST_INSERTS}
 use Rattle.registry_state.specs.declared.Batch.{Batch}
-use Rattle.paxos_defs.specs.declared.Place.{Place}
 use Rattle.paxos_acceptor.specs.declared.notes.ReplicaNote.{ReplicaNote}
 use Rattle.paxos_acceptor.specs.declared.notes.ReplicaNote.TheVariants.{Promised, Accepted}
 use Rattle.paxos_acceptor.specs.Cells.{place_of}
@@ -10,8 +9,8 @@ use Rattle.packet_codec.specs.Bad.{Spelled}
 use Rattle.turn_defs.specs.Spellings.{place, IsPlace, ballot, IsBallot, batch, IsBatch}
 use Rattle.packet_codec.specs.Notes.{note, IsNote}
 use Rattle.packet_codec.proofs.Counts.{batch_room}
-use Rattle.packet_codec.proofs.Made.{place_apart, ballot_apart, batch_apart, some_place, some_ballot, some_batch}
-use Rattle.packet_codec.proofs.PartLaws.{IsApart, IsSum, Two, Three, two, three, two_whole, three_whole, two_same, three_same}
+use Rattle.packet_codec.proofs.Made.{batch_apart, some_place, some_ballot, some_batch}
+use Rattle.packet_codec.proofs.PartLaws.{IsApart, IsSum, Two, Three, two, three, two_whole, three_whole}
 
 abbrev pub Noted : ℕ → List ℕ → Type 0
 Noted zero = Two place IsPlace ballot IsBallot
@@ -34,11 +33,7 @@ note_sum = record { parts = parts; made = made; some = some }
     some (suc n) few = (_, three place IsPlace ballot IsBallot batch IsBatch some_place.0 some_ballot.0 some_batch.0 some_place.1 some_ballot.1 some_batch.1)
 
 pub note_apart : IsApart note IsNote
-note_apart (Promised m n b) (Promised k l c) s t p q e =
-    two_same (λ (x : Place) y. Promised x.shard x.slot y) place IsPlace ballot IsBallot (place_of m n) (place_of k l) b c s t place_apart ballot_apart p.0 q.0 p.1 q.1 (ap (drop 1) e)
-note_apart (Accepted m n b v) (Accepted k l c w) s t p q e =
-    three_same (λ (x : Place) y z. Accepted x.shard x.slot y z) place IsPlace ballot IsBallot batch IsBatch (place_of m n) (place_of k l) b c v w s t place_apart ballot_apart batch_apart p.0 q.0 p.1 q.1 p.2 q.2 (ap (drop 1) e)
-note_apart v w s t p q e = absurd (omega (arith, ap (λ (x : List ℕ). get_or x 0 0) e))
+note_apart h k s t p q e = grind (arith, batch_apart)
 
 pub some_note : (x : ReplicaNote) × IsNote x
 some_note = (Promised some_place.0.shard some_place.0.slot some_ballot.0, (some_place.1, some_ballot.1))

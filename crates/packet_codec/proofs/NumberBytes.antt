@@ -1,9 +1,8 @@
 -- Numbers and their bytes.
-use Rattle.std.proofs.Common.{◌≡◌, ⊎_elim, ℕ, zero, suc, ◌/◌, ◌%◌, ◌^◌, ◌<◌, ◌≤◌, List, [], ◌∷◌, length, get_or, refl, sym, ap, ◌∙◌, subst, arith}
+use Rattle.std.proofs.Common.{◌≡◌, ℕ, zero, suc, ◌^◌, ◌<◌, ◌≤◌, List, [], ◌∷◌, length, get_or, refl, sym, ap, ◌∙◌, arith}
 use Rattle.std.specs.Int.{w16, w32, w64, to_be_bytes, from_be_bytes}
 use Rattle.std.proofs.lemmas.List.{get_or_past}
 use Rattle.std.proofs.lemmas.Nat.{be_bytes_2, be_bytes_4, be_bytes_8, from_be_bytes-to_be_bytes_2, from_be_bytes-to_be_bytes_4, from_be_bytes-to_be_bytes_8}
-use Rattle.std.proofs.lemmas.Bool.{cases_lt}
 use Rattle.packet_codec.specs.Cells.{Run, UpTo}
 
 -- each is a byte
@@ -14,11 +13,7 @@ pub bytes_none : Bytes []
 bytes_none = record { at = λ k. omega arith }
 
 pub bytes_cons : (b : ℕ) (z : List ℕ) → b < 256 → Bytes z → Bytes (b ∷ z)
-bytes_cons b z h t = record { at = go }
-  where
-    go : (k : ℕ) → get_or (b ∷ z) k 0 < 256
-    go zero = h
-    go (suc k) = t.at k
+bytes_cons b z h t = grind arith
 
 pub bytes_2 : (n : ℕ) → Bytes (to_be_bytes w16 n)
 bytes_2 n = bytes_cons _ _ (omega arith) (bytes_cons _ _ (omega arith) bytes_none)
@@ -27,9 +22,7 @@ pub bytes_4 : (n : ℕ) → Bytes (to_be_bytes w32 n)
 bytes_4 n = bytes_cons _ _ (omega arith) (bytes_cons _ _ (omega arith) (bytes_cons _ _ (omega arith) (bytes_cons _ _ (omega arith) bytes_none)))
 
 pub bytes_8 : (n : ℕ) → Bytes (to_be_bytes w64 n)
-bytes_8 n =
-    bytes_cons _ _ (omega arith) (bytes_cons _ _ (omega arith) (bytes_cons _ _ (omega arith) (bytes_cons _ _ (omega arith)
-    (bytes_cons _ _ (omega arith) (bytes_cons _ _ (omega arith) (bytes_cons _ _ (omega arith) (bytes_cons _ _ (omega arith) bytes_none)))))))
+bytes_8 n = grind (arith, bytes_cons)
 
 -- the same bytes are of the same number
 pub same_2 : (m n : ℕ) → m < 2 ^ 16 → n < 2 ^ 16 → to_be_bytes w16 m ≡ to_be_bytes w16 n → m ≡ n
@@ -51,27 +44,14 @@ number_4 z len h = (from_be_bytes w32 z, omega (arith, h.at 0, h.at 1, h.at 2, h
 pub number_8 : (z : List ℕ) → length z ≡ 8 → Bytes z → (n : ℕ) × (n < 2 ^ 64) × (z ≡ to_be_bytes w64 n)
 number_8 z len h = (from_be_bytes w64 z, omega (arith, h.at 0, h.at 1, h.at 2, h.at 3, h.at 4, h.at 5, h.at 6, h.at 7), sym (be_bytes_8 z _ len h.at refl))
 
--- below 2^48 the two high bytes are 0
-pub small_8 : (n : ℕ) → n < 2 ^ 64 → n / 2 ^ 56 % 256 ≤ 0 → n / 2 ^ 48 % 256 ≤ 0 → n < 2 ^ 48
-small_8 n h p q = omega arith
-
 -- ---- any bytes
 
 pub run_bytes : (n : ℕ) (z : List ℕ) → Run n 0 255 z → Bytes z
-run_bytes n z h = record {
-  at = λ k. ⊎_elim
-      (λ lt. let b = (h.each k lt).1 in omega arith)
-      (λ le. subst (λ x. x < 256) (sym (get_or_past z k 0 (omega (arith, h.len)))) (omega arith))
-      (cases_lt k n);
-}
+run_bytes n z h = grind (arith, get_or_past)
 
 -- one byte
 pub run_one : (b low high : ℕ) → low ≤ b → b ≤ high → Run 1 low high (b ∷ [])
-run_one b low high p q = record { len = refl; each = go }
-  where
-    go : (k : ℕ) → k < 1 → (low ≤ get_or (b ∷ []) k 0) × (get_or (b ∷ []) k 0 ≤ high)
-    go zero lt = (p, q)
-    go (suc k) lt = absurd (omega arith)
+run_one b low high p q = grind arith
 
 pub one_of : (z : List ℕ) → length z ≡ 1 → z ≡ get_or z 0 0 ∷ []
 one_of [] l = absurd (omega arith)
@@ -106,9 +86,4 @@ pub up_to_each : (ls bs : List ℕ) → EachUpTo ls bs → UpTo ls bs
 up_to_each ls bs h = record { len = up_to_len ls bs h; each = up_to_at ls bs h }
 
 pub up_to_bytes : (ls z : List ℕ) → Bytes ls → UpTo ls z → Bytes z
-up_to_bytes ls z small h = record {
-  at = λ k. ⊎_elim
-      (λ lt. omega (arith, h.each k lt, small.at k))
-      (λ le. subst (λ x. x < 256) (sym (get_or_past z k 0 (omega (arith, h.len)))) (omega arith))
-      (cases_lt k (length ls));
-}
+up_to_bytes ls z small h = grind (arith, get_or_past)

@@ -1,5 +1,5 @@
 -- Numbers as fields: where their first bad byte is, and that each has one spelling.
-use Rattle.std.proofs.Common.{◌≡◌, ℕ, ◌/◌, ◌%◌, ◌^◌, ◌<◌, ◌≤◌, List, get_or, refl, sym, ap, subst, arith}
+use Rattle.std.proofs.Common.{◌≡◌, ℕ, ◌^◌, ◌<◌, List, get_or, refl, sym, subst, arith}
 use Rattle.packet_codec.specs.declared.fields.stop.Stop.{Stop}
 use Rattle.packet_codec.specs.Bad.{Spelled}
 use Rattle.packet_codec.specs.Cells.{Run, UpTo}
@@ -9,8 +9,7 @@ use Rattle.turn_defs.specs.Spellings.{number, IsNumber}
 use Rattle.packet_codec.proofs.BadPlaces.{front_same, stops_same}
 use Rattle.packet_codec.proofs.PartLaws.{IsApart}
 use Rattle.packet_codec.specs.declared.fields.numbers.Small.{Small}
-use Rattle.packet_codec.specs.declared.fields.numbers.Capped.{Capped}
-use Rattle.packet_codec.proofs.NumberBytes.{Bytes, bytes_none, bytes_cons, EachUpTo, bytes_2, bytes_4, bytes_8, same_2, same_4, same_8, number_2, number_4, number_8, small_8, run_one, one_of, run_bytes, run_any, up_to_each, up_to_bytes}
+use Rattle.packet_codec.proofs.NumberBytes.{Bytes, EachUpTo, bytes_2, bytes_4, bytes_8, same_2, same_4, same_8, number_2, number_4, number_8, run_one, one_of, run_bytes, run_any, up_to_each, up_to_bytes}
 
 -- ---- two bytes, four, and eight
 
@@ -35,19 +34,14 @@ number_apart x y s t p q e = same_8 x y p q (front_same (number x) (number y) s 
 -- ---- eight bytes of a number below 2^48
 
 small_bytes : Bytes small_limits
-small_bytes =
-    bytes_cons _ _ (omega arith) (bytes_cons _ _ (omega arith) (bytes_cons _ _ (omega arith) (bytes_cons _ _ (omega arith)
-    (bytes_cons _ _ (omega arith) (bytes_cons _ _ (omega arith) (bytes_cons _ _ (omega arith) (bytes_cons _ _ (omega arith) bytes_none)))))))
+small_bytes = grind arith
 
 small_each : (x : Small) → IsSmall x → EachUpTo small_limits (small x)
 small_each x h = (omega arith, (omega arith, (omega arith, (omega arith, (omega arith, (omega arith, (omega arith, (omega arith, tt))))))))
 
 -- of eight bytes within the limits
 pub is_small : (z : List ℕ) (n : ℕ) → n < 2 ^ 64 → UpTo small_limits z → z ≡ number n → n < 2 ^ 48
-is_small z n lt h e =
-    let high : n / 2 ^ 56 % 256 ≤ 0 = subst (λ (x : List ℕ). get_or x 0 0 ≤ 0) e (h.each 0 (omega arith)) in
-    let next : n / 2 ^ 48 % 256 ≤ 0 = subst (λ (x : List ℕ). get_or x 1 0 ≤ 0) e (h.each 1 (omega arith)) in
-    small_8 n lt high next
+is_small z n lt h e = grind arith
 
 pub small_bad : (bytes : List ℕ) (stop : Stop) → Stops (UpTo small_limits) bytes stop → Stops (Spelled small IsSmall) bytes stop
 small_bad bytes stop = stops_same (UpTo small_limits) (Spelled small IsSmall) bytes stop
@@ -55,9 +49,7 @@ small_bad bytes stop = stops_same (UpTo small_limits) (Spelled small IsSmall) by
     (λ z s. subst (UpTo small_limits) (sym s.2) (up_to_each small_limits (small s.0) (small_each s.0 s.1)))
 
 pub small_apart : IsApart small IsSmall
-small_apart x y s t p q e =
-    let of : ℕ → Small = λ n. record { number = n } in
-    ap of (number_apart x.number y.number s t (omega (arith, p)) (omega (arith, q)) e)
+small_apart x y s t p q e = grind arith
 
 -- ---- a byte up to a limit
 
@@ -67,6 +59,4 @@ capped_bad most bytes stop = stops_same (Run 1 0 most) (Spelled (capped most) (I
     (λ z s. subst (Run 1 0 most) (sym s.2) (run_one s.0.byte 0 most (omega arith) s.1))
 
 pub capped_apart : (most : ℕ) → IsApart (capped most) (IsCapped most)
-capped_apart most x y s t p q e =
-    let of : ℕ → Capped most = λ n. record { byte = n } in
-    ap of (ap (λ (z : List ℕ). get_or z 0 0) e)
+capped_apart most x y s t p q e = grind arith

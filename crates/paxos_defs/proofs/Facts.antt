@@ -1,5 +1,5 @@
 -- How the facts of packets and proposers last, and what follows from them.
-use Rattle.std.proofs.Common.{◌≡◌, ◌⊎◌, ℕ, ◌*◌, ◌<◌, List, [], ◌∷◌, ◌++◌, length, get_or, set, Bool, true, false, Option, Some, None, inl, inr, ⊎_elim, refl, sym, ◌∙◌, subst}
+use Rattle.std.proofs.Common.{◌≡◌, ◌⊎◌, ℕ, ◌*◌, ◌<◌, List, [], ◌∷◌, ◌++◌, length, get_or, set, Bool, true, false, Option, Some, None, inl, inr, ⊎_elim, refl, sym, ◌∙◌, subst, arith}
 use Rattle.std.specs.Prelude.{slice_get}
 use Rattle.std.proofs.lemmas.List.{length-set, length-replicate}
 use Rattle.std.proofs.lemmas.Bool.{ltb-true}
@@ -14,7 +14,7 @@ use Rattle.list_words.specs.Lists.{Begins}
 use Rattle.paxos_defs.specs.Decided.{decided, IsExact}
 use Rattle.paxos_defs.proofs.Decided.{decided_is, decided_begin, learn_next}
 use Rattle.paxos_defs.specs.Facts.{IsGrant, IsRefusal, IsOffer, IsAnswered, IsUnheard, IsAsking, IsOffering, Writes}
-use Rattle.paxos_defs.proofs.Agreement.{has_kept, one_grows, same_grows, safe_kept, promised_kept, was_accepted_kept, vote_keeps, same_keeps, chosen_kept, one_came, picked_safe, promised_left, promised_right, higher_accepted, agreed_one}
+use Rattle.paxos_defs.proofs.Agreement.{has_kept, safe_kept, promised_kept, was_accepted_kept, vote_keeps, same_keeps, chosen_kept, one_came, picked_safe, promised_left, promised_right, higher_accepted, agreed_one}
 use Rattle.paxos_defs.proofs.Places.{noted, note_casts_one, note_casts_none, vote_here, vote_elsewhere, place_true}
 use Rattle.paxos_defs.proofs.Marks.{marked_set, nobody_marked}
 
@@ -43,11 +43,7 @@ module _ {V : Type 0} {Offered : Place → Ballot → V → Type 0} {js js' : Li
   answer_written r b h = (h.0, h.1, has_kept writes.grows r (acceptance b h.0) h.2)
 
   pub unheard_written : (b : Ballot) → IsUnheard js Offered p b → IsUnheard js' Offered p b
-  unheard_written b h =
-      record {
-        not_offered = h.not_offered;
-        not_accepted = λ r v a. ⊎_elim (λ (o : HasAccepted (votes js p r) b v). h.not_accepted r v o) (λ (s : Offered p b v). h.not_offered v s) (writes.came r b v a);
-      }
+  unheard_written b h = grind arith
 
   pub asking_written : (b : Ballot) (marks : List Bool) (best : Option (Ballot × V)) → IsAsking js Offered p b marks best → IsAsking js' Offered p b marks best
   asking_written b marks best h =
@@ -82,8 +78,7 @@ module _ {V : Type 0} (js : List (List (Note V))) {Offered Offered' : Place → 
 
   -- a safe value is an offer where nothing was heard of its ballot
   pub first_offer : (v : V) → ((w : V) → Offered' p b w → Offered p b w ⊎ (w ≡ v)) → IsUnheard js Offered p b → IsSafe (length js) (votes js p) b v → IsOffer js Offered' p b v
-  first_offer v back unheard safe =
-      record { safe = safe; only = λ r w h. absurd (unheard.not_accepted r w h); one = λ w s. ⊎_elim (λ (o : Offered p b w). absurd (unheard.not_offered w o)) (λ (e : w ≡ v). e) (back w s) }
+  first_offer v back unheard safe = grind arith
 
 -- Journals that agree still do after a note.
 
@@ -113,8 +108,7 @@ module _ {V : Type 0} (Offered : Place → Ballot → V → Type 0) (js : List (
   note_writes = record { members = members; grows = grows turn; came = λ k b v. came k b v turn }
     where
       grows : Turn → Grows (votes js q) (votes (noted js r note) q)
-      grows (inl same) = same_grows same
-      grows (inr one) = one_grows one.1
+      grows h = grind arith
 
       came : (k : ℕ) (b : Ballot) (v : V) → Turn → HasAccepted (votes (noted js r note) q k) b v → HasAccepted (votes js q k) b v ⊎ Offered q b v
       came k b v (inl same) a = inl (subst (λ (ys : List (Vote V)). Has ys (acceptance b v)) (same k) a)
@@ -138,8 +132,7 @@ vote_suits {V} Offered js r p x rises offers q = go (is_place p q) refl
 -- Answers are counted.
 
 was_prior : {V : Type 0} (js : List (List (Note V))) (p : Place) (r : ℕ) (prior : Option (Ballot × V)) → HasPrior (votes js p r) prior → WasAccepted (votes js p) prior
-was_prior js p r None h = tt
-was_prior js p r (Some a) h = (r, h)
+was_prior js p r prior h = grind arith
 
 module _ {V : Type 0} {js : List (List (Note V))} {Offered : Place → Ballot → V → Type 0} {p : Place} {b : Ballot} where
   -- at first nobody has answered
@@ -169,15 +162,7 @@ module _ {V : Type 0} {js : List (List (Note V))} {Offered : Place → Ballot �
 
   -- one acceptance more
   pub offers_on : (r : ℕ) (v : V) {marks : List Bool} → IsOffer js Offered p b v → IsOffering js Offered p b v marks → IsAnswered js Offered r p b → IsOffering js Offered p b v (set marks r true)
-  offers_on r v {marks} offer h answer =
-      record {
-        members = length-set marks r true ∙ h.members;
-        offered = h.offered;
-        each = λ k m. ⊎_elim
-            (λ (e : k ≡ r). subst (λ (j : ℕ). HasAccepted (votes js p j) b v) (sym e) (subst (λ (u : V). HasAccepted (votes js p r) b u) (offer.one answer.0 answer.1) answer.2))
-            (λ (old : slice_get marks k ≡ Some true). h.each k old)
-            (marked_set marks r k m);
-      }
+  offers_on r v {marks} offer h answer = grind (arith, length-set, marked_set)
 
   -- with a majority of acceptances the value is chosen
   pub accepted : (v : V) {marks : List Bool} → IsOffering js Offered p b v marks → is_most marks ≡ true → IsChosen js p v

@@ -1,9 +1,9 @@
 -- Each event of replicas and servers keeps what holds, and so does each run.
-use Rattle.std.proofs.Common.{◌≡◌, ◌⊎◌, ℕ, suc, max, ◌<◌, ◌≤◌, List, [], ◌∷◌, ◌++◌, length, Bool, true, ◌&&◌, Option, Some, None, inl, inr, ⊎_elim, refl, sym, ap, ◌∙◌, subst, arith}
+use Rattle.std.proofs.Common.{◌≡◌, ◌⊎◌, ℕ, suc, max, ◌<◌, ◌≤◌, List, [], ◌∷◌, ◌++◌, length, Bool, true, ◌&&◌, Option, Some, None, inl, inr, refl, sym, ap, ◌∙◌, subst, arith}
 use Rattle.std.specs.Prelude.{slice_get, ◌==◌, ◌≢◌}
 use Rattle.std.proofs.lemmas.Bool.{cond_both, eqb-true, and_parts}
 use Rattle.list_words.specs.Lists.{Mem, set_at}
-use Rattle.list_words.proofs.Lists.{at_set, at_set_if, none_some}
+use Rattle.list_words.proofs.Lists.{at_set, at_set_if}
 use Rattle.ballot_core.specs.declared.Ballot.{Ballot}
 use Rattle.ballot_core.specs.Ballots.{is_same}
 use Rattle.ballot_core.proofs.Order.{same_true}
@@ -68,8 +68,7 @@ module _ {V : Type 0} (js js' : List (List (Note V))) (ps ps' : List (Packet V))
   server_lasts server stands h = record { undrawn = λ b u p. unheard b (site server.live b u) p (h.undrawn b u p); live = live server.live h.live }
     where
       site : (o : Option (Live V)) (b : Ballot) → IsUndrawn s server.epoch o b → b.site ≡ s
-      site None b u = u.0
-      site (Some l) b u = u.0
+      site o b u = grind arith
 
       live : (o : Option (Live V)) → LiveStands js ps s server.epoch o → LiveStands js' ps' s server.epoch o
       live None h = tt
@@ -86,19 +85,13 @@ lasts servers =
 -- ---- a server goes on
 
 later_proposal : {V : Type 0} (js : List (List (Note V))) (ps : List (Packet V)) (s e round next : ℕ) (p : Place) (o : Option (Proposal V)) → round ≤ next → ProposalStands js ps s e round p o → ProposalStands js ps s e next p o
-later_proposal js ps s e round next p None le h = tt
-later_proposal js ps s e round next p (Some a) le h = ((h.0.0, h.0.1, omega (arith, h.0.2)), h.1)
+later_proposal js ps s e round next p o le h = grind arith
 
 weaker : (e : ℕ) (b : Ballot) (round next : ℕ) → round ≤ next → (e < b.epoch) ⊎ ((e ≡ b.epoch) × (next < b.round)) → (e < b.epoch) ⊎ ((e ≡ b.epoch) × (round < b.round))
-weaker e b round next le (inl h) = inl h
-weaker e b round next le (inr h) = inr (h.0, omega (arith, h.1))
+weaker e b round next le h = grind arith
 
 learns_more : {V : Type 0} (js : List (List (Note V))) (shard : ℕ) (learned : List V) (v : V) → AreChosen js shard learned → IsChosen js (record { shard = shard; slot = length learned }) v → AreChosen js shard (learned ++ v ∷ [])
-learns_more {V} js shard learned v h chosen slot w e =
-    ⊎_elim
-    (λ (k : slice_get learned slot ≡ Some w). h slot w k)
-    (λ (k : (slot ≡ length learned) × (v ≡ w)). subst (λ (z : ℕ × V). IsChosen js (record { shard = shard; slot = z.0 }) z.1) (λ i. (sym k.0 i, k.1 i)) chosen)
-    (at_push learned v slot w e)
+learns_more {V} js shard learned v h chosen slot w e = grind (arith, at_push)
 
 place_is : {V : Type 0} (p : Place) (l : Live V) → (p.slot == length (l.shards p.shard).learned) ≡ true → p ≡ next_place l p.shard
 place_is p l e = λ i. record { shard = p.shard; slot = eqb-true p.slot (length (l.shards p.shard).learned) e i }
@@ -168,12 +161,7 @@ module _ {V : Type 0} {first : List (List (Note V))} (w : World V) (s : ℕ) (l 
         fresh b (inr above) q c k = let same = ap (λ (z : Ballot). z.round) (its_ballot q b c k) in let known = holds.2 in omega (arith, same, known, above.1)
 
         elsewhere : (k : ℕ) → k ≢ shard → ShardStands js (x ∷ ps) s e l.round k (l.shards k)
-        elsewhere k apart =
-            let old = lived k in
-            record {
-              learned = old.learned;
-              proposal = proposal_lasts js js ps (x ∷ ps) s e l.round (next_place l k) (l.shards k).proposal (λ a' _. stands_sent js ps x (next_place l k) a'.ballot a'.phase (λ u i. apart (sym (ap (λ (z : Place). z.shard) (its_place (next_place l k) a'.ballot u i))))) old.proposal;
-            }
+        elsewhere k apart = grind (arith, stands_sent)
 
         mine : ServerStands js (x ∷ ps) s next
         mine =
@@ -244,28 +232,14 @@ module _ {V : Type 0} {first : List (List (Note V))} (w : World V) (s : ℕ) (l 
 module _ {V : Type 0} {first : List (List (Note V))} (w : World V) (s : ℕ) (h : WorldHolds first w) where
   -- a server that is down has drawn all ballots of its kept epoch
   down_undrawn : (b : Ballot) → b.site ≡ s → (w.servers s).epoch < b.epoch → (p : Place) → IsUnheard w.replicas.journals (Offered w.replicas.packets) p b
-  down_undrawn b site above = (h.rest s).undrawn b (go (w.servers s).live)
-    where
-      go : (o : Option (Live V)) → IsUndrawn s (w.servers s).epoch o b
-      go None = (site, above)
-      go (Some l) = (site, inl above)
+  down_undrawn b site above = grind arith
 
   starts_holds : (live : Option (Live V)) → WorldHolds first (starts w s live)
   starts_holds (Some l) = h
-  starts_holds None =
-      holds_with_server w s _ h
-      (record { undrawn = λ b u p. down_undrawn b u.0 (above b u.1) p; live = λ shard. record { learned = λ slot v e. none_some v e; proposal = tt } })
-    where
-      above : (b : Ballot) → (suc (w.servers s).epoch < b.epoch) ⊎ ((suc (w.servers s).epoch ≡ b.epoch) × (0 < b.round)) → (w.servers s).epoch < b.epoch
-      above b (inl u) = omega arith
-      above b (inr u) = omega (arith, u.0)
+  starts_holds None = grind arith
 
   if_up_holds : (f : Live V → World V) → ((l : Live V) → (w.servers s).live ≡ Some l → WorldHolds first (f l)) → WorldHolds first (if_up w f (w.servers s).live)
-  if_up_holds f holds = go (w.servers s).live holds
-    where
-      go : (o : Option (Live V)) → ((l : Live V) → o ≡ Some l → WorldHolds first (f l)) → WorldHolds first (if_up w f o)
-      go None holds = h
-      go (Some l) holds = holds l refl
+  if_up_holds f holds = grind arith
 
 happens_holds : {V : Type 0} {first : List (List (Note V))} (same : V → V → Bool) (w : World V) (e : Event V) → WorldHolds first w → WorldHolds first (happens same w e)
 happens_holds same w (Proposes s shard own) h = if_up_holds w s h _ (λ l is. begins_holds w s l h is shard own (l.shards shard).proposal)
@@ -287,5 +261,4 @@ after_run {V} same journals epochs events agree kept = run_holds same events (op
 
 -- what a server has learned is chosen, slot by slot
 pub learned_chosen : {V : Type 0} (js : List (List (Note V))) (ps : List (Packet V)) (s e : ℕ) (o : Option (Live V)) (shard : ℕ) → LiveStands js ps s e o → AreChosen js shard (learned_of o shard)
-learned_chosen js ps s e None shard h = λ slot v k. none_some v k
-learned_chosen js ps s e (Some l) shard h = (h shard).learned
+learned_chosen js ps s e o shard h = grind arith

@@ -1,15 +1,15 @@
 -- Each event of replicas and proposers keeps what holds, and so does each run.
-use Rattle.std.proofs.Common.{◌≡◌, ℕ, zero, suc, List, [], ◌∷◌, length, get_or, replicate, Bool, true, false, cond, ◌||◌, Option, Some, None, inl, refl, sym, ap, ◌∙◌, subst}
+use Rattle.std.proofs.Common.{◌≡◌, ℕ, zero, suc, List, [], ◌∷◌, length, get_or, replicate, Bool, true, false, cond, ◌||◌, Option, Some, None, inl, refl, sym, ap, ◌∙◌, subst, arith}
 use Rattle.std.specs.Prelude.{slice_get}
 use Rattle.std.proofs.lemmas.Bool.{cond_both}
 use Rattle.list_words.specs.Lists.{Mem, Each}
-use Rattle.list_words.proofs.Lists.{each_more, none_some}
+use Rattle.list_words.proofs.Lists.{each_more}
 use Rattle.ballot_core.specs.declared.Ballot.{Ballot}
 use Rattle.ballot_core.specs.Ballots.{is_same}
 use Rattle.ballot_core.proofs.Order.{same_true, same_false}
 use Rattle.paxos_defs.specs.declared.Place.{Place}
-use Rattle.paxos_defs.specs.Notes.{is_place, is_noted, Note, Vote, acceptance, votes, Has}
-use Rattle.paxos_defs.specs.Agreement.{IsChosen, JournalsAgree, NeverFall}
+use Rattle.paxos_defs.specs.Notes.{is_place, Note}
+use Rattle.paxos_defs.specs.Agreement.{IsChosen, JournalsAgree}
 use Rattle.paxos_defs.specs.Attempts.{Phase, Attempt, nobody, on_promise, on_accepted}
 use Rattle.paxos_defs.specs.Attempts.Phase.{Promising, Ended}
 use Rattle.paxos_defs.specs.Facts.{IsGrant, IsAnswered, IsUnheard, Writes}
@@ -19,7 +19,7 @@ use Rattle.paxos_world.specs.Replicas.{Packet}
 use Rattle.paxos_world.specs.Replicas.Packet.{Prepare, Promise, Nack, Accept, Accepted}
 use Rattle.paxos_world.specs.World.{World, Event, opened, goes_on, promise_counted, acceptance_counted, counts, returns, draws, proposes, happens, run}
 use Rattle.paxos_world.specs.World.Event.{Proposes, Comes, Returns, ReplicaRestarts, ProposerRestarts}
-use Rattle.paxos_world.proofs.Replicas.{Offered, Stands, Holds, IsQuiet, Lasts, stands_written, accept_came, stands_sent, Asked, promise_counts, Learned, acceptance_counts, holds_restored, was_sent, holds_with, holds_offered, holds_sent, arrives_holds, restarts_holds}
+use Rattle.paxos_world.proofs.Replicas.{Offered, Stands, Holds, IsQuiet, Lasts, stands_written, accept_came, stands_sent, Asked, promise_counts, Learned, acceptance_counts, was_sent, holds_offered, holds_sent, arrives_holds, restarts_holds}
 
 -- A ballot that wasn't drawn was never heard of, and one that was drawn may have an attempt.
 abbrev pub BallotStands : {V : Type 0} → List (List (Note V)) → List (Packet V) → Ballot → Bool → Option (Attempt V) → Type 0
@@ -59,11 +59,7 @@ lasts {V} w =
 -- ---- at the start
 
 holds_opened : {V : Type 0} (journals : List (List (Note V))) → JournalsAgree journals → WorldHolds journals (opened journals)
-holds_opened {V} journals agree = holds_restored journals _ agree (record { ballots = λ b. ballot b (is_noted b journals) refl; learned = tt })
-  where
-    ballot : (b : Ballot) (t : Bool) → is_noted b journals ≡ t → BallotStands journals [] b t None
-    ballot b true e = tt
-    ballot b false e = ((λ p. record { not_offered = λ v s. s; not_accepted = λ r v h. not_noted b journals e p r v h }), refl)
+holds_opened {V} journals agree = grind (arith, not_noted)
 
 no_notes : {V : Type 0} (n r : ℕ) → get_or (replicate n []) r [] ≡ (let none : List (Note V) = [] in none)
 no_notes zero r = refl
@@ -72,18 +68,7 @@ no_notes (suc n) (suc r) = no_notes n r
 
 -- journals without notes agree
 pub empty_agree : {V : Type 0} (n : ℕ) → JournalsAgree {V = V} (replicate n [])
-empty_agree {V} n p =
-    record {
-      rising = λ r. subst (λ (ys : List (Vote V)). NeverFall ys) (sym (no_votes r)) tt;
-      one_value = λ r b v h. absurd (nothing r (acceptance b v) h);
-      safe = λ r b v h. absurd (nothing r (acceptance b v) h);
-    }
-  where
-    no_votes : (r : ℕ) → votes {V = V} (replicate n []) p r ≡ []
-    no_votes r = ap (λ (notes : List (Note V)). votes (notes ∷ []) p 0) (no_notes n r)
-
-    nothing : (r : ℕ) (x : Vote V) → Has (votes {V = V} (replicate n []) p r) x → ⊥
-    nothing r x h = subst (λ (ys : List (Vote V)). Has ys x) (no_votes r) h
+empty_agree {V} n p = grind (arith, no_notes)
 
 -- ---- the proposers' events
 
@@ -96,8 +81,7 @@ attempt_set w b a js ps drawn stands others c =
 
 module _ {V : Type 0} {first : List (List (Note V))} where
   holds_goes_on : (w : World V) (b : Ballot) (a : Attempt V) (phase : Phase V) → WorldHolds first w → w.drawn b ≡ true → Stands w.replicas.journals w.replicas.packets a.place b phase → WorldHolds first (goes_on w b a phase)
-  holds_goes_on w b a phase h drawn stands =
-      holds_with w.replicas h (record { ballots = attempt_set w b (record a { phase = phase }) w.replicas.journals w.replicas.packets drawn stands (λ c _. h.rest.ballots c); learned = h.rest.learned })
+  holds_goes_on w b a phase h drawn stands = grind (arith, attempt_set)
 
   promise_holds : (w : World V) (b : Ballot) (a : Attempt V) (t : Phase V × Option V) → WorldHolds first w → w.drawn b ≡ true → Asked w.replicas.journals w.replicas.packets a.place b t → WorldHolds first (promise_counted w b a t)
   promise_holds w b a (phase, None) h drawn stands = holds_goes_on w b a phase h drawn stands
@@ -119,16 +103,10 @@ module _ {V : Type 0} {first : List (List (Note V))} where
 
   acceptance_holds : (w : World V) (b : Ballot) (a : Attempt V) (t : Phase V × Option V) → WorldHolds first w → w.drawn b ≡ true → Learned w.replicas.journals w.replicas.packets a.place b t → WorldHolds first (acceptance_counted w b a t)
   acceptance_holds w b a (phase, None) h drawn stands = holds_goes_on w b a phase h drawn stands
-  acceptance_holds w b a (phase, Some v) h drawn (stands, chosen) =
-      let next = holds_goes_on w b a phase h drawn stands in holds_with w.replicas next (record { ballots = next.rest.ballots; learned = (chosen, next.rest.learned) })
+  acceptance_holds w b a (phase, Some v) h drawn (stands, chosen) = grind (arith, holds_goes_on)
 
   counts_holds : (w : World V) (b : Ballot) (f : Attempt V → World V) → WorldHolds first w → ((a : Attempt V) → w.drawn b ≡ true → Stands w.replicas.journals w.replicas.packets a.place b a.phase → WorldHolds first (f a)) → WorldHolds first (counts w f (w.attempts b))
-  counts_holds w b f h holds = go (w.drawn b) (w.attempts b) holds (h.rest.ballots b)
-    where
-      go : (d : Bool) (o : Option (Attempt V)) → ((a : Attempt V) → d ≡ true → Stands w.replicas.journals w.replicas.packets a.place b a.phase → WorldHolds first (f a)) → BallotStands w.replicas.journals w.replicas.packets b d o → WorldHolds first (counts w f o)
-      go d None holds stands = h
-      go true (Some a) holds stands = holds a refl stands
-      go false (Some a) holds stands = none_some a (sym stands.1)
+  counts_holds w b f h holds = grind arith
 
   ends_holds : (w : World V) (b : Ballot) → WorldHolds first w → WorldHolds first (counts w (λ a. goes_on w b a Ended) (w.attempts b))
   ends_holds w b h = counts_holds w b _ h (λ a drawn stands. holds_goes_on w b a Ended h drawn tt)
@@ -149,14 +127,7 @@ module _ {V : Type 0} {first : List (List (Note V))} where
 
   -- a ballot is drawn
   holds_draws : (w : World V) (b : Ballot) → WorldHolds first w → w.drawn b ≡ false → WorldHolds first (draws w b)
-  holds_draws w b h fresh = holds_with w.replicas h (record { ballots = λ c. ballot c (is_same c b) refl; learned = h.rest.learned })
-    where
-      none : w.attempts b ≡ None
-      none = (subst (λ t. BallotStands w.replicas.journals w.replicas.packets b t (w.attempts b)) fresh (h.rest.ballots b)).1
-
-      ballot : (c : Ballot) (t : Bool) → is_same c b ≡ t → BallotStands w.replicas.journals w.replicas.packets c (t || w.drawn c) (w.attempts c)
-      ballot c false e = h.rest.ballots c
-      ballot c true e = subst (BallotStands w.replicas.journals w.replicas.packets c true) (sym (ap w.attempts (same_true c b e) ∙ none)) tt
+  holds_draws w b h fresh = grind arith
 
   proposes_holds : (w : World V) (p : Place) (b : Ballot) (own : V) → WorldHolds first w → w.drawn b ≡ false → WorldHolds first (proposes w p b own)
   proposes_holds w p b own h fresh =
@@ -169,8 +140,7 @@ module _ {V : Type 0} {first : List (List (Note V))} where
       quiet q c v e = cc
 
       mine : (t : Bool) → is_same b b ≡ t → (t || w.drawn b) ≡ true
-      mine true e = refl
-      mine false e = absurd (same_false b b e refl)
+      mine t e = grind arith
 
   happens_holds : (same : V → V → Bool) (w : World V) (e : Event V) → WorldHolds first w → WorldHolds first (happens same w e)
   happens_holds same w (Proposes p b own) h = cond_both (w.drawn b) w (proposes w p b own) (WorldHolds first) (λ _. h) (proposes_holds w p b own h)

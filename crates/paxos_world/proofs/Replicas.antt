@@ -7,18 +7,16 @@ use Rattle.list_words.specs.Lists.{Mem}
 use Rattle.list_words.proofs.Lists.{none_some, some_same}
 use Rattle.ballot_core.specs.declared.Ballot.{Ballot}
 use Rattle.paxos_defs.specs.declared.Place.{Place}
-use Rattle.paxos_defs.specs.Notes.{is_place, Note, note_of, Vote, acceptance, votes, cell_after, blank, cell_of}
-use Rattle.paxos_defs.specs.Agreement.{HasAccepted, IsChosen, IsOnly, IsSafe, JournalsAgree, Rises}
-use Rattle.paxos_defs.specs.Turns.{Prepared, Taken, on_prepare, on_accept, higher, value_for}
-use Rattle.paxos_defs.specs.Turns.Prepared.{Grant, Refuse}
-use Rattle.paxos_defs.specs.Turns.Taken.{Take, Decline}
+use Rattle.paxos_defs.specs.Notes.{is_place, Note, note_of, Vote, acceptance, votes, cell_after, cell_of}
+use Rattle.paxos_defs.specs.Agreement.{IsChosen, IsOnly, IsSafe, JournalsAgree, Rises}
+use Rattle.paxos_defs.specs.Turns.{Prepared, Taken, on_prepare, on_accept}
 use Rattle.paxos_defs.specs.Attempts.{Phase, is_new, is_most, nobody, on_promise, on_accepted}
 use Rattle.paxos_defs.specs.Attempts.Phase.{Promising, Accepting, Ended}
 use Rattle.paxos_defs.specs.Facts.{IsGrant, IsRefusal, IsOffer, IsAnswered, IsUnheard, IsAsking, IsOffering, Writes}
 use Rattle.paxos_defs.proofs.Cells.{Knows, cell_knows, cell_push}
 use Rattle.paxos_defs.proofs.Places.{noted, note_casts, note_elsewhere, place_true}
 use Rattle.paxos_defs.proofs.Turns.{after, PreparedHolds, IsPromiseVote, prepare_holds, IsAcceptanceVote, TakenHolds, accept_holds}
-use Rattle.paxos_defs.proofs.Facts.{grant_written, refusal_written, offer_written, answer_written, asking_written, offering_written, chosen_written, offer_sent, asking_sent, offering_sent, first_offer, vote_suits, note_writes, note_agrees, asks_on, asked, offers_on, accepted}
+use Rattle.paxos_defs.proofs.Facts.{grant_written, refusal_written, offer_written, answer_written, asking_written, offering_written, chosen_written, first_offer, vote_suits, note_writes, note_agrees, asks_on, asked, offers_on, accepted}
 use Rattle.paxos_world.specs.Replicas.{Packet, Replicas, restored, sent, casts, prepared, taken, comes, arrives, restarts}
 use Rattle.paxos_world.specs.Replicas.Packet.{Prepare, Promise, Nack, Accept, Accepted, Chosen}
 
@@ -73,22 +71,14 @@ module _ {V : Type 0} (ps : List (Packet V)) {js js' : List (List (Note V))} (wr
 
 module _ {V : Type 0} (js : List (List (Note V))) (ps : List (Packet V)) (x : Packet V) where
   pub accept_came : (p : Place) (b : Ballot) → IsQuiet x p b → (v : V) → Offered (x ∷ ps) p b v → Offered ps p b v
-  accept_came p b quiet v (inl e) = absurd (quiet v e)
-  accept_came p b quiet v (inr s) = s
+  accept_came p b quiet v h = grind arith
 
   pub stands_sent : (p : Place) (b : Ballot) (phase : Phase V) → IsQuiet x p b → Stands js ps p b phase → Stands js (x ∷ ps) p b phase
-  stands_sent p b (Promising marks best) quiet h = asking_sent js p b marks best (accept_came p b quiet) h
-  stands_sent p b (Accepting v marks) quiet h = offering_sent js p b v marks (λ s. inr s) h
-  stands_sent p b Ended quiet h = tt
+  stands_sent p b phase quiet h = grind arith
 
   -- a packet's fact is kept, where no second value is sent at its ballot
   fact_sent : (y : Packet V) → ((p : Place) (b : Ballot) (v : V) → y ≡ Accept p b v → (w : V) → x ≡ Accept p b w → w ≡ v) → Fact js ps y → Fact js (x ∷ ps) y
-  fact_sent (Accept p b v) fits h = offer_sent js p b v (λ w s. ⊎_elim (λ (e : x ≡ Accept p b w). inr (fits p b v refl w e)) (λ (o : Offered ps p b w). inl o) s) h
-  fact_sent (Accepted r p b) fits h = (h.0, inr h.1, h.2)
-  fact_sent (Prepare p b) fits h = tt
-  fact_sent (Promise r p b prior) fits h = h
-  fact_sent (Nack r p b promised) fits h = h
-  fact_sent (Chosen p v) fits h = h
+  fact_sent y fits h = grind arith
 
 -- ---- what is counted
 
@@ -104,13 +94,7 @@ Learned js ps p b (phase, Some v) = Stands js ps p b phase × IsChosen js p v
 
 module _ {V : Type 0} {first : List (List (Note V))} {Rest : List (List (Note V)) → List (Packet V) → Type 0} (a : Replicas V) (h : Holds first Rest a) (p : Place) (b : Ballot) where
   pub promise_counts : (own : V) (phase : Phase V) (r : ℕ) (prior : Option (Ballot × V)) → Stands a.journals a.packets p b phase → IsGrant a.journals r p b prior → Asked a.journals a.packets p b (on_promise own phase r prior)
-  promise_counts own (Promising marks best) r prior stands grant =
-      let next = asks_on r prior stands grant in
-      cond_both (is_new marks r) _ _ (Asked a.journals a.packets p b)
-      (λ _. cond_both (is_most (set marks r true)) _ _ (Asked a.journals a.packets p b)
-      (λ most. (ap (λ n. Accepting (value_for own (higher best prior)) (nobody n)) next.members, next.unheard, asked own (h.agree p) next most))
-      (λ _. next))
-      (λ _. stands)
+  promise_counts own (Promising marks best) r prior stands grant = grind (arith, asks_on, asked)
   promise_counts own (Accepting v marks) r prior stands grant = stands
   promise_counts own Ended r prior stands grant = tt
 
@@ -162,46 +146,29 @@ module _ {V : Type 0} (a : Replicas V) (r : ℕ) (p : Place) (b : Ballot) where
   IsCast (Some x) = Rises (votes a.journals p r) x × ((c : Ballot) (v : V) → acceptance c v ≡ x → Offered a.packets p c v)
 
   promise_cast : (vote : Option (Vote V)) → IsPromiseVote (votes a.journals p r) b vote → IsCast vote
-  promise_cast None fits = tt
-  promise_cast (Some x) fits = (fits.0, λ c v e. none_some v (sym (ap (λ (z : Vote V). z.value) (e ∙ fits.1))))
+  promise_cast vote fits = grind arith
 
   acceptance_cast : (v : V) → Offered a.packets p b v → (vote : Option (Vote V)) → IsAcceptanceVote (votes a.journals p r) b v vote → IsCast vote
-  acceptance_cast v s None fits = tt
-  acceptance_cast v s (Some x) fits = (fits.0, λ c u e. told c u (e ∙ fits.1))
-    where
-      told : (c : Ballot) (u : V) → acceptance c u ≡ acceptance b v → Offered a.packets p c u
-      told c u e = let ballot = ap (λ (z : Vote V). z.ballot) e in let same : u ≡ v = some_same u v (ap (λ (z : Vote V). z.value) e) in subst (λ (z : Ballot × V). Offered a.packets p z.0 z.1) (λ i. (sym ballot i, sym same i)) s
+  acceptance_cast v s vote fits = grind arith
 
   still_offered : (vote : Option (Vote V)) (v : V) → Offered a.packets p b v → Offered (casts a r p vote).packets p b v
-  still_offered None v s = s
-  still_offered (Some x) v s = s
+  still_offered vote v s = grind arith
 
   prepared_quiet : (t : Prepared V) (q : Place) (c : Ballot) → IsQuiet (prepared r p b t) q c
-  prepared_quiet (Grant prior) q c v e = cc
-  prepared_quiet (Refuse promised) q c v e = cc
+  prepared_quiet t q c v e = grind arith
 
   taken_quiet : (t : Taken) (q : Place) (c : Ballot) → IsQuiet {V = V} (taken r p b t) q c
-  taken_quiet Take q c v e = cc
-  taken_quiet (Decline promised) q c v e = cc
+  taken_quiet t q c v e = grind arith
 
   prepared_fact : (t : Prepared V) → PreparedHolds (votes a.journals p r) b t → Fact a.journals a.packets (prepared r p b t)
-  prepared_fact (Grant prior) h = h
-  prepared_fact (Refuse promised) h = h
+  prepared_fact t h = grind arith
 
   taken_fact : (v : V) (t : Taken) → Offered a.packets p b v → IsOnly (votes a.journals p) b v → TakenHolds (votes a.journals p r) b t → Fact a.journals a.packets (taken r p b t)
-  taken_fact v Take s only h = (v, s, subst (HasAccepted (votes a.journals p r) b) (only r h.0 h.1) h.1)
-  taken_fact v (Decline promised) s only h = h
+  taken_fact v t s only h = grind arith
 
 module _ {V : Type 0} {first : List (List (Note V))} {Rest : List (List (Note V)) → List (Packet V) → Type 0} (lasts : Lasts Rest) where
   pub holds_sent : (a : Replicas V) (x : Packet V) → Holds first Rest a → ((p : Place) (b : Ballot) → IsQuiet x p b) → Fact a.journals a.packets x → Holds first Rest (sent a x)
-  holds_sent a x h quiet fact = record { agree = h.agree; remembered = h.remembered; facts = facts; kept = h.kept; rest = lasts.sent a.journals a.packets x quiet h.rest }
-    where
-      last : (y : Packet V) → Fact a.journals a.packets y → Fact a.journals (x ∷ a.packets) y
-      last y = fact_sent a.journals a.packets x y (λ p b v _ u e. absurd (quiet p b u e))
-
-      facts : (y : Packet V) → Mem y (x ∷ a.packets) → Fact a.journals (x ∷ a.packets) y
-      facts y (inl e) = subst (Fact a.journals (x ∷ a.packets)) e (last x fact)
-      facts y (inr s) = last y (h.facts y s)
+  holds_sent a x h quiet fact = grind (arith, fact_sent)
 
   holds_casts : (a : Replicas V) (r : ℕ) (p : Place) (x : Vote V) → Holds first Rest a → r < length a.journals → Rises (votes a.journals p r) x → ((b : Ballot) (v : V) → acceptance b v ≡ x → Offered a.packets p b v) → Holds first Rest (casts a r p (Some x))
   holds_casts a r p x h within rises told =
@@ -222,8 +189,7 @@ module _ {V : Type 0} {first : List (List (Note V))} {Rest : List (List (Note V)
       remembered k q true true e f =
           let same : k ≡ r = grind (arith, nat_tests) in
           let one = note_casts a.journals r p x within rises in
-          subst (λ (z : ℕ × Place). cell_after (a.cells r p) x ≡ cell_of (votes (noted a.journals r (note_of p x)) z.1 z.0)) (λ i. (sym same i, place_true p q f i))
-          (ap (λ c. cell_after c x) (h.remembered r p) ∙ sym (cell_push blank (votes a.journals p r) x) ∙ ap (λ ys. cell_of ys) (sym one.cast.is))
+          grind (arith, cell_push)
       remembered k q true false e f = apart k q f
       remembered k q false false e f = apart k q f
       remembered k q false true e f =
@@ -262,8 +228,4 @@ module _ {V : Type 0} {first : List (List (Note V))} {Rest : List (List (Note V)
       cond_both (nat_lt r (length a.journals)) _ a (Holds first Rest) (λ e. comes_holds same a r (slice_get a.packets which) h (ltb-true r (length a.journals) e) (was_sent a.packets which)) (λ _. h)
 
 pub restarts_holds : {V : Type 0} {first : List (List (Note V))} {Rest : List (List (Note V)) → List (Packet V) → Type 0} (a : Replicas V) (r : ℕ) → Holds first Rest a → Holds first Rest (restarts a r)
-restarts_holds a r h = record { agree = h.agree; remembered = λ k p. remembered k p (k == r) refl; facts = h.facts; kept = h.kept; rest = h.rest }
-  where
-    remembered : (k : ℕ) (p : Place) (t : Bool) → (k == r) ≡ t → cond t (cell_of (votes a.journals p r)) (a.cells k p) ≡ cell_of (votes a.journals p k)
-    remembered k p true e = let same : k ≡ r = grind (arith, nat_tests) in ap (λ j. cell_of (votes a.journals p j)) (sym same)
-    remembered k p false e = h.remembered k p
+restarts_holds a r h = grind arith

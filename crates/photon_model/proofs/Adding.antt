@@ -1,12 +1,12 @@
 -- A row behind a table's rows, where nothing that a replica accepted forbids its start: no settled id changes its shard.
-use Rattle.std.proofs.Common.{◌≡◌, ◌⊎◌, inl, inr, ⊎_elim, ℕ, zero, suc, ◌+◌, ◌%◌, ◌<◌, ◌≤◌, Bool, false, List, [], ◌∷◌, ◌++◌, map, Some, None, refl, sym, ap, ◌∙◌, subst, arith}
+use Rattle.std.proofs.Common.{◌≡◌, ◌⊎◌, inl, inr, ⊎_elim, ℕ, zero, suc, ◌+◌, ◌%◌, ◌<◌, ◌≤◌, Bool, List, [], ◌∷◌, map, Some, None, refl, sym, ap, ◌∙◌, subst, arith}
 use Rattle.std.specs.Prelude.{Option, is_some, nat_lt, slice_get, if◌then◌else◌}
-use Rattle.std.proofs.lemmas.Bool.{cases_lt, le-ltb}
+use Rattle.std.proofs.lemmas.Bool.{cases_lt}
 use Rattle.time_shards.specs.declared.ShardRow.{ShardRow}
 use Rattle.time_shards.proofs.Tables.{count_before}
 use Rattle.log_records.specs.Report.{distinct}
 use Rattle.log_records.specs.declared.report.ReportLine.{ReportLine}
-use Rattle.verify_pass.specs.TooSoon.{batches_of, batches_in, all_batches, IsEarlier, IsBefore}
+use Rattle.verify_pass.specs.TooSoon.{batches_in, all_batches, IsEarlier, IsBefore}
 use Rattle.verify_pass.proofs.Starting.{none_before}
 use Rattle.photon_model.proofs.Words.{EventId, Token, Ballot, Batch, Mem, IsGranted, Registered, Expired, bound_of, first_insert, holder_first, holder_granted, Click, ClickLine, M, X, U, Setting, shard, Place, BallotNote, Promised, Took as Accepted, ReplicaKept, each_at, each_from, each_more, mem_left, mem_right, journals, values_from, known_of, Known, IsWritten, IsSettled, PairRec, PairSound, DispatcherSound, DispatcherKept, IsInsertOf, InsertsOf, SoundStore, accepted_inserts, pair_of, line_by, Disks, Store, WholeSound, topology_of}
 use Rattle.photon_model.specs.Journals.{decided}
@@ -17,15 +17,12 @@ use Rattle.photon_model.proofs.Journals.{accepted_stands, decided_accepted}
 -- an accepted batch stands among those of its replica, and of all
 own_batches : (ns : List BallotNote) (p : Place) (b : Ballot) (v : Batch) → Mem (Accepted p b v) ns → Mem v (batches_in ns)
 own_batches [] p b v m = absurd m
-own_batches (n ∷ ns) p b v (inl e) = subst (λ (x : BallotNote). Mem v (batches_of x ++ batches_in ns)) (sym e) (inl refl)
-own_batches (n ∷ ns) p b v (inr m) = mem_right v (batches_of n) (batches_in ns) (own_batches ns p b v m)
+own_batches (n ∷ ns) p b v h = grind (arith, own_batches ns p b v)
 
 from_all : (f : ℕ → ReplicaKept) (from n r : ℕ) (v : Batch) → r < n → Mem v (batches_in (f (from + r)).notes) → Mem v (all_batches (values_from (λ k. (f k).notes) from n))
 from_all f from zero r v lt m = absurd (omega arith)
-from_all f from (suc n) zero v lt m =
-    mem_left v (batches_in (f from).notes) (all_batches (values_from (λ k. (f k).notes) (suc from) n)) (subst (λ (j : ℕ). Mem v (batches_in (f j).notes)) (let e : from + 0 ≡ from = omega arith in e) m)
-from_all f from (suc n) (suc r) v lt m =
-    mem_right v (batches_in (f from).notes) (all_batches (values_from (λ k. (f k).notes) (suc from) n)) (from_all f (suc from) n r v (omega arith) (subst (λ (j : ℕ). Mem v (batches_in (f j).notes)) (let e : from + suc r ≡ suc from + r = omega arith in e) m))
+from_all f from (suc n) zero v lt m = grind (arith, mem_left)
+from_all f from (suc n) (suc r) v lt m = grind (arith, mem_right, from_all f (suc from) n r v)
 
 bounds : (vs : List Batch) (n : ℕ) → ((k : ℕ) (v : Batch) → slice_get vs k ≡ Some v → v.bound ≤ n) → bound_of vs ≤ n
 bounds [] n h = omega arith
@@ -47,11 +44,7 @@ module _ (g : Setting) (d : Disks) (row : ShardRow) (s : SoundStore g d) (free :
       (from_all d.replicas 0 g.replicas r v lt (subst (λ (j : ℕ). Mem v (batches_in (d.replicas j).notes)) (let e : r ≡ 0 + r = omega arith in e) (own_batches (d.replicas r).notes p b v m)))
 
   decided_early : (k slot : ℕ) (v : Batch) → slice_get (decided js k) slot ≡ Some v → IsBefore row.start v
-  decided_early k slot v e =
-      let at_ : Place = record { shard = k; slot = slot } in
-      let c = decided_accepted js s.replicas.agree k slot v e in
-      let a = accepted_stands g.replicas d.replicas at_ c.0 c.1 v c.2 in
-      accepted_early c.0 a.0 at_ c.1 v a.1
+  decided_early k slot v e = grind (arith, decided_accepted, accepted_stands, accepted_early)
 
   bound_early : (k : ℕ) → bound_of (decided js k) ≤ row.start
   bound_early k = bounds (decided js k) row.start (λ slot v e. (decided_early k slot v e).0)
@@ -80,9 +73,7 @@ module _ (g : Setting) (d : Disks) (row : ShardRow) (s : SoundStore g d) (free :
   moves_unsettled i moved x = moved (same_shard i (settled_early i (shard g i) x))
 
   pair_stays : (j epoch : ℕ) (p : PairRec) → PairSound g known j epoch p → PairSound longer known j epoch p
-  pair_stays j epoch p x =
-      let same = same_shard p.click.id (granted_early (shard g p.click.id) p.click.id p.token x.granted) in
-      record { own_query = x.own_query; joiner = x.joiner; epoch = x.epoch; granted = subst (λ (k : ℕ). IsGranted (decided js k) p.click.id p.token) (sym same) x.granted; drawn = x.drawn }
+  pair_stays j epoch p x = search (same_shard, granted_early)
 
   dispatcher_stays : (k : DispatcherKept) → DispatcherSound g known k → DispatcherSound longer known k
   dispatcher_stays k x =
@@ -117,18 +108,13 @@ module _ (g : Setting) (d : Disks) (row : ShardRow) (s : SoundStore g d) (free :
   line_in i k = line_for i (nat_lt i.micros (bound_of (decided js k))) (first_insert (decided js k) i)
 
   late_line : (i : EventId) (k : ℕ) → row.start ≤ i.micros → line_in i k ≡ U i
-  late_line i k le = go (first_insert (decided js k) i) refl
-    where
-      go : (o : Option Token) → first_insert (decided js k) i ≡ o → line_in i k ≡ U i
-      go None e = ap (λ (b : Bool). line_for i b (first_insert (decided js k) i)) (le-ltb i.micros (bound_of (decided js k)) (let b = bound_early k in omega (arith, b, le))) ∙ ap (line_for i false) e
-      go (Some t) e = absurd (let lt = first_early k i t e in omega (arith, lt, le))
+  late_line i k le = grind (arith, bound_early, first_early)
 
   line_stays : (i : EventId) → line_in i (shard longer i) ≡ line_in i (shard g i)
   line_stays i = ⊎_elim (λ lt. ap (line_in i) (same_shard i lt)) (λ le. late_line i (shard longer i) le ∙ sym (late_line i (shard g i) le)) (cases_lt i.micros row.start)
 
   told_stays : (i : EventId) (o : Option PairRec) → line_by longer d i o ≡ line_by g d i o
-  told_stays i None = line_stays i
-  told_stays i (Some p) = refl
+  told_stays i o = grind (arith, line_stays)
 
   pub report_stays : report longer d ≡ report g d
   report_stays = λ k. map (λ (c : Click). told_stays c.id (pair_of g d c.id) k) (distinct (map (λ (l : ClickLine). l.click) g.clicks))

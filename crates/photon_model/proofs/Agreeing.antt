@@ -1,13 +1,13 @@
 -- Each entry keeps the facts on ballots, and gives what the other facts need of Paxos; so all facts hold after every run.
-use Rattle.std.proofs.Common.{◌≡◌, ◌≢◌, ◌⊎◌, inl, inr, ⊎_elim, ℕ, zero, suc, ◌<◌, ◌≤◌, max, Bool, true, false, cond, ◌==◌, nat_lt, List, [], ◌∷◌, ◌++◌, length, get_or, Some, None, refl, sym, ap, ◌∙◌, subst, arith}
+use Rattle.std.proofs.Common.{◌≡◌, ◌≢◌, ◌⊎◌, inl, inr, ⊎_elim, ℕ, zero, suc, ◌<◌, ◌≤◌, max, Bool, ◌==◌, List, [], ◌∷◌, ◌++◌, length, get_or, Some, None, refl, sym, ap, ◌∙◌, subst, arith}
 use Rattle.std.specs.Prelude.{Option, slice_get}
-use Rattle.std.proofs.lemmas.Bool.{cond_both, cond-true, cond-false, eq-eqb, ne_eqb, ltb-false}
+use Rattle.std.proofs.lemmas.Bool.{cond-true, cond-false, eq-eqb, ne_eqb}
 use Rattle.photon_model.proofs.Worlds.{row_by}
-use Rattle.photon_model.proofs.Words.{Out, dispatcher_start, joiner_start, EventId, Token, Ballot, Insert, Batch, same_batch, at, Mem, Each, Begins, set_at, IsGranted, bound_of, first_insert, holder, Setting, Checked, shard, IsJoiner, Packet, Join, Joined, Claim, Reply, Node, Dispatcher, Server, Replica, Joiner, To, Sent, Input, Start, Own, Tick, Deliver, Place, Vote, acceptance, vote_at, votes_at, votes_in, Has, Promised, Took, HasAccepted, OneChosen, agreed_one, decided_grows, vote_here, has_append, BallotNote, Note, Voted, idle, land, DispatcherKept, DispatcherLive, dispatcher_turn, JoinerKept, JoinerLive, Flight, joiner_turn, ServerKept, ServerLive, land_server, server_turn, ReplicaKept, land_replica, replica_turn, each_at, mem_left, mem_right, mem_split, at_set, at_set_if, none_some, one_granted, holder_granted, holder_first, bound_stays, Addressed, journals, ReplicasSound, Offer, Votes, offer, VotesOf, VotesOfServer, VotesAgree, values_of, IsWritten, IsInsertOf, InsertsOf, Sound, IfUp, IfOpen, known, ServerHolds, WorldHolds, World, Entry, Begin, End, Stop, Disks, disks, begun, ended, stopped, dispatcher_row, server_row, replica_row, joiner_row, sends, after, world_after, WasSent, May, IsRun, opening, decided_in, NoJoinerStops, IsBoundOk, HasBounds, IsFlying, IsResolved, IsChosenNow, PaxosGives, Cell}
+use Rattle.photon_model.proofs.Words.{Out, dispatcher_start, joiner_start, EventId, Token, Ballot, Insert, Batch, same_batch, at, Mem, Each, Begins, set_at, IsGranted, bound_of, holder, Setting, Checked, shard, IsJoiner, Packet, Join, Joined, Claim, Reply, Node, Dispatcher, Server, Replica, Joiner, To, Sent, Input, Start, Own, Tick, Deliver, Place, Vote, acceptance, vote_at, votes_at, votes_in, Has, Promised, Took, HasAccepted, OneChosen, agreed_one, decided_grows, BallotNote, Note, Voted, idle, land, DispatcherKept, DispatcherLive, dispatcher_turn, JoinerKept, JoinerLive, Flight, joiner_turn, ServerKept, ServerLive, land_server, server_turn, ReplicaKept, land_replica, replica_turn, each_at, mem_left, mem_right, mem_split, at_set, at_set_if, one_granted, holder_granted, holder_first, bound_stays, Addressed, journals, ReplicasSound, Offer, Votes, offer, VotesOf, VotesOfServer, VotesAgree, values_of, IsWritten, Sound, IfUp, IfOpen, known, ServerHolds, WorldHolds, World, Entry, Begin, End, Stop, Disks, disks, begun, ended, stopped, dispatcher_row, server_row, replica_row, joiner_row, sends, after, world_after, WasSent, May, IsRun, opening, decided_in, NoJoinerStops, IsBoundOk, HasBounds, IsFlying, IsResolved, IsChosenNow, PaxosGives, Cell}
 use Rattle.photon_model.proofs.DispatcherRows.{each_packet as each_join}
 use Rattle.photon_model.proofs.JoinerRows.{each_packet}
 use Rattle.photon_model.specs.Journals.{decided}
-use Rattle.photon_model.proofs.Journals.{journals_length, journal_of, journals_noted, journals_same, accepted_note, accepted_stands, exact, decided_accepted}
+use Rattle.photon_model.proofs.Journals.{journals_length, journal_of, journals_noted, accepted_note, accepted_stands, exact, decided_accepted}
 use Rattle.photon_model.specs.Voting.{votes, BallotsHold}
 use Rattle.photon_model.proofs.Growth.{begins_self}
 use Rattle.photon_model.proofs.Voting.{with_note, MayNote, ReplicaVotes, offering, ServerVotes, sent, votes_sent, owned_sent, server_sent, votes_written, server_written, writes_note, agree_noted, idles, gets_votes}
@@ -30,11 +30,7 @@ abbrev pub ArePlain : List (To × Packet) → Type 0
 ArePlain ps = Each (λ (a : To × Packet). IsPlain a.1) ps
 
 plain_votes : (n : Votes) (from : Node) (p : Packet) → IsPlain p → VotesOf n from p
-plain_votes n from (Join p c) h = tt
-plain_votes n from (Joined p o) h = tt
-plain_votes n from (Claim x) h = tt
-plain_votes n from (Reply x a) h = tt
-plain_votes n from _ h = absurd h
+plain_votes n from p h = grind arith
 
 pub dispatcher_row_plain : (g : Setting) (s : ℕ) (c : Cell DispatcherKept DispatcherLive) → ArePlain (dispatcher_row g s c).packets
 dispatcher_row_plain g s c = row_by dispatcher_start (dispatcher_turn g s) c.kept c.live c.opened (λ (o : Out DispatcherLive). ArePlain o.packets) tt (λ l _ i _. each_join g s c.kept l (λ (a : To × Packet). IsPlain a.1) (λ p x. tt) i)
@@ -47,8 +43,7 @@ addressed_votes : (g : Setting) (n : Votes) (from : Node) (as_ : List (To × Pac
 addressed_votes g n from [] [] a h x m = absurd m
 addressed_votes g n from [] (p ∷ ps) a h x m = absurd a
 addressed_votes g n from (b ∷ as_) [] a h x m = absurd m
-addressed_votes g n from (b ∷ as_) (p ∷ ps) a h x (inl e) = subst (λ (y : Sent). VotesOf n y.from y.packet) e (subst (VotesOf n from) a.0.1 h.0)
-addressed_votes g n from (b ∷ as_) (p ∷ ps) a h x (inr m) = addressed_votes g n from as_ ps a.1 h.1 x m
+addressed_votes g n from (b ∷ as_) (p ∷ ps) a h x k = grind (arith, addressed_votes g n from as_ ps a.1 h.1 x)
 
 -- what holds of ballots, over votes that are the world's
 held : (g : Setting) (v : World) (offered : List Offer) (n : Votes) → votes g v offered ≡ n → VotesAgree n → ((x : Sent) → Mem x v.sent → VotesOf n x.from x.packet) → ((s : ℕ) → s < 2 → IfUp (VotesOfServer n s (v.servers s).kept.epoch) (v.servers s).live) → BallotsHold g v offered
@@ -91,9 +86,7 @@ module _ (g : Setting) (w : World) (offered : List Offer) (holds : BallotsHold g
 
     -- the votes are those with its note
     votes_then : (o : Option Note) → c.kept ≡ land land_replica o (w.replicas r).kept → MayNote now r o → votes g with_replica offered ≡ with_note now r o
-    votes_then None e may =
-        let q = journals_same g.replicas (λ k. (w.replicas k).kept) kept_then (at_set (λ k (d : Cell ReplicaKept (Unit {0})). d.kept.notes ≡ (w.replicas k).kept.notes) w.replicas r c (ap (λ (k : ReplicaKept). k.notes) e) (λ k. refl)) in
-        λ i. record { journals = q i; offered = offered; epochs = now.epochs }
+    votes_then None e may = grind arith
     votes_then (Some (Voted x)) e may =
         let q = journals_noted g.replicas (λ k. (w.replicas k).kept) kept_then r x lt (ap (λ (k : ReplicaKept). k.notes) (set_here ∙ e)) set_other in
         λ i. record { journals = q i; offered = offered; epochs = now.epochs }
@@ -173,9 +166,7 @@ module _ (g : Setting) (w : World) (offered : List Offer) (holds : BallotsHold g
       turn Tick m = idle_
 
       go : (l : Option (Unit {0})) (o : Option Input) → IfOpen w.sent (Replica r) o → ReplicaVotes now r (replica_row (record { kept = (w.replicas r).kept; live = l; opened = o }))
-      go None o h = idle_
-      go (Some l) None h = idle_
-      go (Some l) (Some i) h = turn i h
+      go l o h = grind (arith, turn)
 
   server_row_votes : (s : ℕ) → s < 2 → IfOpen w.sent (Server s) (w.servers s).opened → ((w.servers s).kept.epoch ≤ (land land_server (server_row g s (w.servers s)).note (w.servers s).kept).epoch) × ServerVotes now s (land land_server (server_row g s (w.servers s)).note (w.servers s).kept).epoch (server_row g s (w.servers s))
   server_row_votes s lt open_ = go (w.servers s).live (holds.servers s lt) (w.servers s).opened open_
@@ -187,18 +178,7 @@ module _ (g : Setting) (w : World) (offered : List Offer) (holds : BallotsHold g
       turn l h i v = let t = turn_votes now holds.agree g members s lt k refl l h i v in subst (λ (q : Option Note). (k.epoch ≤ (land land_server q k).epoch) × ServerVotes now s (land land_server q k).epoch (server_turn g s k l i)) (sym t.0) (omega arith, t.1)
 
       go : (l : Option ServerLive) → IfUp (VotesOfServer now s k.epoch) l → (o : Option Input) → IfOpen w.sent (Server s) o → (k.epoch ≤ (land land_server (server_row g s (record { kept = k; live = l; opened = o })).note k).epoch) × ServerVotes now s (land land_server (server_row g s (record { kept = k; live = l; opened = o })).note k).epoch (server_row g s (record { kept = k; live = l; opened = o }))
-      go None h o q = (
-        omega arith,
-        record {
-          new = [];
-          values = λ x m. absurd m;
-          unheard = λ x m. absurd m;
-          sites = tt;
-          agree = holds.agree;
-          server = record { rounds = λ x m a b. let y = (holds.agree.owned_offers x m).1 in let z : (w.servers x.ballot.site).kept.epoch ≡ k.epoch = ap (λ t. (w.servers t).kept.epoch) a in absurd (omega arith); shards = λ t. tt };
-          packets = tt;
-        },
-      )
+      go None h o q = grind arith
       go (Some l) h None q = turn l h Own (λ from p e. absurd (cc))
       go (Some l) h (Some i) q = turn l h i (input_votes (Server s) i q)
 
@@ -321,8 +301,7 @@ module _ (g : Setting) (c : Checked g) (old : List ℕ) (w : World) (drawn : Lis
   gives e m = record { grows = (next e m).1.0.1; chosen = chosen_here }
 
 split_stops : (e : Entry) (es : List Entry) → NoJoinerStops (e ∷ es) → NoJoinerStops (e ∷ []) × NoJoinerStops es
-split_stops (Stop (Joiner j) landed) es h = absurd h
-split_stops _ es h = (tt, h)
+split_stops e es h = grind arith
 
 pub runs : (g : Setting) → Checked g → (old : List Insert) (bounds : List ℕ) (es : List Entry) (w : World) (drawn : List Insert) (offered : List Offer) → WorldHolds g w drawn → BallotsHold g w offered → IsRun g w es →
     (d : List Insert) × (o : List Offer) × WorldHolds g (world_after g w es) d × BallotsHold g (world_after g w es) o × (Fates g old w drawn → NoJoinerStops es → Fates g old (world_after g w es) d) × (BoundsHold g bounds w offered → BoundsHold g bounds (world_after g w es) o)
@@ -347,8 +326,7 @@ all_offers (ns ∷ js) = offers_of ns ++ all_offers js
 note_offered : (ns : List BallotNote) (at : Place) (b : Ballot) (v : Batch) → Mem (Took at b v) ns → Mem (offer at b v) (offers_of ns)
 unfolding offers_of
 note_offered [] at b v m = absurd m
-note_offered (Took p c w ∷ ns) at b v (inl e) = inl (let x : p ≡ at = cc in let y : c ≡ b = cc in let z : w ≡ v = cc in λ i. offer (x i) (y i) (z i))
-note_offered (Took p c w ∷ ns) at b v (inr m) = inr (note_offered ns at b v m)
+note_offered (Took p c w ∷ ns) at b v h = grind (arith, note_offered ns at b v)
 note_offered (Promised p c ∷ ns) at b v m = ⊎_elim (λ e. absurd (cc)) (λ k. note_offered ns at b v k) m
 
 has_right : (xs ys : List (Vote Batch)) (x : Vote Batch) → Has ys x → Has (xs ++ ys) x
@@ -358,10 +336,7 @@ has_right (y ∷ xs) ys x h = inr (has_right xs ys x h)
 offer_noted : (ns : List BallotNote) (x : Offer) → Mem x (offers_of ns) → HasAccepted (votes_at x.place ns) x.ballot x.value
 unfolding offers_of
 offer_noted [] x m = absurd m
-offer_noted (Took p c w ∷ ns) x (inl e) =
-    subst (λ (y : Offer). HasAccepted (votes_at y.place (Took p c w ∷ ns)) y.ballot y.value) e
-    (has_append (vote_at p (Took p c w)) (votes_at p ns) (acceptance c w) (subst (λ (xs : List (Vote Batch)). Has xs (acceptance c w)) (sym (vote_here p (acceptance c w))) (inl refl)))
-offer_noted (Took p c w ∷ ns) x (inr m) = has_right (vote_at x.place (Took p c w)) (votes_at x.place ns) (acceptance x.ballot x.value) (offer_noted ns x m)
+offer_noted (Took p c w ∷ ns) x h = grind (arith, offer_noted ns x)
 offer_noted (Promised p c ∷ ns) x m = has_right (vote_at x.place (Promised p c)) (votes_at x.place ns) (acceptance x.ballot x.value) (offer_noted ns x m)
 
 to_offers : (js : List (List BallotNote)) (at : Place) (r : ℕ) (b : Ballot) (v : Batch) → HasAccepted (votes_in js at r) b v → Mem (offer at b v) (all_offers js)
@@ -403,26 +378,14 @@ every_run_holds g d drawn es c s r = let o = opens_ballots g d drawn s in let z 
 -- ---- and at its end
 
 pub closes : (g : Setting) (w : World) (drawn : List Insert) (offered : List Offer) → WorldHolds g w drawn → BallotsHold g w offered → Sound g (disks w) drawn
-closes g w drawn offered h b =
-    record {
-      replicas = record { agree = b.agree.agree; owned = b.agree.owned_notes };
-      joiners = λ j i. (h.joiners j i).kept;
-      dispatchers = λ s lt. (h.dispatchers s lt).kept;
-      drawing = h.drawing;
-      inserts = λ r lt. (h.replicas r lt).kept;
-    }
+closes g w drawn offered h b = grind arith
 
 pub one_decided : (g : Setting) (w : World) (offered : List Offer) → BallotsHold g w offered → OneChosen (journals g.replicas (λ r. (w.replicas r).kept))
 one_decided g w offered h = agreed_one (journals g.replicas (λ r. (w.replicas r).kept)) h.agree.agree
 
 -- what was granted was drawn
 pub granted_drawn : (g : Setting) (w : World) (drawn : List Insert) (offered : List Offer) → WorldHolds g w drawn → BallotsHold g w offered → (i : EventId) (t : Token) → IsGranted (values_of g (known g w drawn) i) i t → Mem (record { id = i; token = t }) drawn
-granted_drawn g w drawn offered h b i t x =
-    let at_ = x.1 in
-    let here : Place = record { shard = shard g i; slot = x.0 } in
-    let c = decided_accepted (journals g.replicas (λ r. (w.replicas r).kept)) b.agree.agree (shard g i) x.0 at_.0 at_.1 in
-    let a = accepted_stands g.replicas (λ r. (w.replicas r).kept) here c.0 c.1 at_.0 c.2 in
-    (each_at (IsInsertOf g (known g w drawn) (shard g i)) at_.0.inserts (each_at (InsertsOf g (known g w drawn)) (w.replicas c.0).kept.notes (h.replicas c.0 a.0).kept (Took here c.1 at_.0) a.1) (record { id = i; token = t }) at_.2).1
+granted_drawn g w drawn offered h b i t x = grind (arith, decided_accepted, accepted_stands, each_at)
 
 pub missing_is_old : (g : Setting) (d : Disks) (drawn : List Insert) (es : List Entry) → Checked g → Sound g d drawn → IsRun g (opening d) es → NoJoinerStops es →
     ((j : ℕ) (l : JoinerLive) → IsJoiner g j → ((world_after g (opening d) es).joiners j).live ≡ Some l → l.flight ≡ []) →
@@ -443,11 +406,7 @@ missing_is_old g d drawn es c s r calm landed_ i t held unwritten =
     fates = z.4 (λ x m. inl (inl m)) calm
 
     bound : bound_of (values_of g (known g w []) i) ≤ i.micros
-    bound = go (nat_lt i.micros (bound_of (values_of g (known g w []) i))) refl held
-      where
-        go : (b : Bool) → nat_lt i.micros (bound_of (values_of g (known g w []) i)) ≡ b → cond b None (first_insert (values_of g (known g w []) i) i) ≡ Some t → bound_of (values_of g (known g w []) i) ≤ i.micros
-        go true e q = none_some t q
-        go false e q = ltb-false i.micros (bound_of (values_of g (known g w []) i)) e
+    bound = grind arith
 
     granted : IsGranted (values_of g (known g w []) i) i t
     granted = holder_granted (values_of g (known g w []) i) i t bound (holder_first (values_of g (known g w []) i) i t held)

@@ -1,13 +1,13 @@
 -- A ballot is drawn for one place alone.
 use Rattle.std.proofs.Common.{◌≡◌, ◌⊎◌, inl, inr, ⊎_elim, ℕ, zero, suc, ◌<◌, ◌≤◌, List, [], ◌∷◌, ◌++◌, Some, None, refl, sym, ap, ◌∙◌, subst, arith}
 use Rattle.std.specs.Prelude.{Option}
-use Rattle.photon_model.proofs.Words.{replica_start, replica_turn, Ballot, Insert, Batch, Phase, on_promise, on_accepted, Prepared as PrepareAnswer, Taken, on_prepare, on_accept, Grant, Refuse, Take, Decline, same_batch, Mem, Each, set_at, Setting, shard, Packet, Prepare, Accept, Place, Node, Dispatcher, Server, Replica, Joiner, To, Only, Sent, Input, Own, Deliver, Note, Out, idle, land, ServerKept, ServerLive, ShardState, Proposal, land_server, to_from, to_replicas, replies, owns, promised, accepted, server_turn, ReplicaKept, cell_at, prepared, taken, replica_gets, each_at, mem_left, mem_right, mem_split, at_set, at_set_if, some_same, none_some, Addressed, World, Entry, Begin, End, Stop, Disks, begun, ended, stopped, dispatcher_row, joiner_row, server_row, replica_row, sends, after, world_after, May, IsRun, opening, Cell}
+use Rattle.photon_model.proofs.Words.{Ballot, Insert, Batch, Phase, on_promise, on_accepted, Prepared as PrepareAnswer, Taken, Mem, Each, set_at, Setting, shard, Packet, Prepare, Accept, Place, Node, Dispatcher, Server, Replica, Joiner, To, Only, Sent, Input, Own, Note, Out, idle, land, ServerKept, ServerLive, ShardState, Proposal, land_server, to_from, to_replicas, replies, owns, promised, accepted, server_turn, ReplicaKept, prepared, taken, replica_gets, each_at, mem_left, mem_right, mem_split, at_set, at_set_if, some_same, none_some, Addressed, World, Entry, Begin, End, Stop, Disks, begun, ended, stopped, dispatcher_row, joiner_row, server_row, replica_row, sends, after, world_after, May, IsRun, opening, Cell}
 use Rattle.photon_model.proofs.ServerRows.{next_at, current_at, replicas_each, reply_each, replies_each, tick_each, every_row}
 use Rattle.photon_model.specs.Claims.{HasSent}
 use Rattle.photon_model.specs.Alone.{Prepared, BallotsAlone}
 use Rattle.photon_model.proofs.Claiming.{addressed_sent}
 use Rattle.photon_model.proofs.Finding.{sent_addressed}
-use Rattle.photon_model.proofs.Worlds.{landed_either, row_by}
+use Rattle.photon_model.proofs.Worlds.{landed_either}
 use Rattle.photon_model.proofs.Agreeing.{IsPlain, ArePlain, dispatcher_row_plain, joiner_row_plain}
 
 -- a shard's proposal was prepared
@@ -47,8 +47,7 @@ module _ (g : Setting) (site : ℕ) (k : ServerKept) (l : ServerLive) (sent : Li
 
   module _ (holds : (t : ℕ) → Stands sent t (l.shards t) (l.shards t).proposal) where
     to_now : (ps : List (To × Packet)) (t : ℕ) (st : ShardState) (o : Option Proposal) → Stands sent t st o → NowStands ps t st o
-    to_now ps t st None h = h
-    to_now ps t st (Some p) h = inl h
+    to_now ps t st o h = grind arith
 
     -- nothing is drawn
     still : (o : Out ServerLive) → o.note ≡ None → AreFair None o.packets → l.round ≤ o.live.round → ((t : ℕ) → Stands sent t (o.live.shards t) (o.live.shards t).proposal) → Fairly o
@@ -88,8 +87,7 @@ module _ (g : Setting) (site : ℕ) (k : ServerKept) (l : ServerLive) (sent : Li
         still _ refl (replicas_each g site (λ (a : To × Packet). Fair None a.1) (Accept at p.ballot v) (λ i lt. subst (λ (q : Place). Prepared sent q p.ballot) (sym here) (stood at.shard p e))) (omega arith) (sets at.shard _ (stood at.shard p e))
 
     accepted_fair : (at : Place) (p : Proposal) → (l.shards at.shard).proposal ≡ Some p → (phase : Phase Batch) (o : Option Batch) → Fairly (accepted g site k l at (l.shards at.shard) p phase o)
-    accepted_fair at p e phase None = still _ refl tt (omega arith) (sets at.shard _ (stood at.shard p e))
-    accepted_fair at p e phase (Some v) = still _ refl (tt, replies_fair ((l.shards at.shard).learned ++ v ∷ []) (l.shards at.shard).queue) (omega arith) (sets at.shard _ tt)
+    accepted_fair at p e phase o = grind (arith, replies_fair)
 
     turn_fair : 0 < g.replicas → (i : Input) → Fairly (server_turn g site k l i)
     turn_fair some =
@@ -120,33 +118,23 @@ abbrev Answers : Out (Unit {0}) → Type 0
 Answers o = AreAnswers o.packets
 
 plain_answer : (p : Packet) → IsPlain p → IsAnswer p
-plain_answer (Prepare at b) h = h
-plain_answer (Accept at b v) h = h
-plain_answer _ h = tt
+plain_answer p h = grind arith
 
 plain_answers : (ps : List (To × Packet)) → ArePlain ps → AreAnswers ps
 plain_answers [] h = tt
 plain_answers (p ∷ ps) h = (plain_answer p.1 h.0, plain_answers ps h.1)
 
 prepared_answer : (at : Place) (b : Ballot) (a : PrepareAnswer Batch) → IsAnswer (prepared at b a)
-prepared_answer at b (Grant prior) = tt
-prepared_answer at b (Refuse p) = tt
+prepared_answer at b a = grind arith
 
 taken_answer : (at : Place) (b : Ballot) (a : Taken) → IsAnswer (taken at b a)
-taken_answer at b Take = tt
-taken_answer at b (Decline p) = tt
+taken_answer at b a = grind arith
 
 gets_answers : (k : ReplicaKept) (from : Node) (p : Packet) → Answers (replica_gets k from p)
-gets_answers k from (Prepare at b) = (prepared_answer at b (on_prepare (cell_at k at) b).1, tt)
-gets_answers k from (Accept at b v) = (taken_answer at b (on_accept same_batch (cell_at k at) b v).1, tt)
-gets_answers k from _ = tt
+gets_answers k from p = grind (arith, prepared_answer, taken_answer)
 
 replica_answers : (c : Cell ReplicaKept (Unit {0})) → Answers (replica_row c)
-replica_answers c = row_by replica_start (λ k l i. replica_turn k i) c.kept c.live c.opened Answers tt (λ _ _ i _. turn i)
-  where
-    turn : (i : Input) → Answers (replica_turn c.kept i)
-    turn (Deliver from p) = gets_answers c.kept from p
-    turn _ = tt
+replica_answers c = grind (arith, gets_answers)
 
 -- ---- the world
 
@@ -158,8 +146,7 @@ record Drawn (w : World) : Type 0 where
 
 module _ (g : Setting) (some : 0 < g.replicas) (w : World) (h : Drawn w) where
   stands_more : (new : List Sent) (t : ℕ) (st : ShardState) (o : Option Proposal) → Stands w.sent t st o → Stands (new ++ w.sent) t st o
-  stands_more new t st None x = x
-  stands_more new t st (Some p) x = (x.0, mem_right x.0 new w.sent x.1, x.2)
+  stands_more new t st o x = grind (arith, mem_right)
 
   more : (new : List Sent) (p : Packet) → HasSent w.sent p → HasSent (new ++ w.sent) p
   more new p x = (x.0, mem_right x.0 new w.sent x.1, x.2)
@@ -201,8 +188,7 @@ module _ (g : Setting) (some : 0 < g.replicas) (w : World) (h : Drawn w) where
         owned = λ at b x. let q = h.owned at b (old at b x) in at_set (λ t (d : Cell ServerKept ServerLive). b.site ≡ t → b.epoch ≤ d.kept.epoch) w.servers s _ (λ e. let r : (w.servers b.site).kept.epoch ≡ (w.servers s).kept.epoch = ap (λ t. (w.servers t).kept.epoch) e in omega arith) (λ t e. subst (λ y. b.epoch ≤ (w.servers y).kept.epoch) e q) b.site refl;
         rounds = λ t. at_set (λ t (d : Cell ServerKept ServerLive). (m : ServerLive) → d.live ≡ Some m → (at : Place) (b : Ballot) → Prepared (sends (Server s) ps ++ w.sent) at b → b.site ≡ t → b.epoch ≡ d.kept.epoch → b.round ≤ m.round) w.servers s _
             (λ m e at b x y z. let q = h.owned at b (old at b x) in let r : (w.servers b.site).kept.epoch ≡ (w.servers s).kept.epoch = ap (λ t. (w.servers t).kept.epoch) y in absurd (omega arith)) (λ t m e at b x. h.rounds t m e at b (old at b x)) t;
-        stands = λ t. at_set (λ t (d : Cell ServerKept ServerLive). (m : ServerLive) → d.live ≡ Some m → (u : ℕ) → Stands (sends (Server s) ps ++ w.sent) u (m.shards u) (m.shards u).proposal) w.servers s _
-            (λ m e u. subst (λ (z : ServerLive). Stands (sends (Server s) ps ++ w.sent) u (z.shards u) (z.shards u).proposal) (some_same l m e) (subst (Stands (sends (Server s) ps ++ w.sent) u (l.shards u)) (sym (none u)) tt)) (λ t m e u. stands_more (sends (Server s) ps) u (m.shards u) (m.shards u).proposal (h.stands t m e u)) t;
+        stands = λ t. grind arith;
       }
     where
       v : Drawn (record w { sent = sends (Server s) ps ++ w.sent })
@@ -230,8 +216,7 @@ module _ (g : Setting) (some : 0 < g.replicas) (w : World) (h : Drawn w) where
       k = (w.servers s).kept
 
       is_drawn : (q : Option Place) (at : Place) (b : Ballot) → IsDraw g s k l w.sent q at b → b ≡ drawn g s k l w.sent
-      is_drawn None at b x = absurd x
-      is_drawn (Some q) at b x = x.1
+      is_drawn q at b x = grind arith
 
       same_draw : (q : Option Place) (at place : Place) (b : Ballot) → IsDraw g s k l w.sent q at b → IsDraw g s k l w.sent q place b → at ≡ place
       same_draw None at place b x y = absurd x

@@ -1,5 +1,5 @@
 -- Each bound that is offered is the horizon, or stood in an accepted record before the run.
-use Rattle.std.proofs.Common.{◌≡◌, inl, ℕ, List, Some, None, refl, subst}
+use Rattle.std.proofs.Common.{◌≡◌, inl, ℕ, List, Some, None, refl, subst, arith}
 use Rattle.std.specs.Prelude.{Option}
 use Rattle.photon_model.proofs.Words.{Ballot, Batch, higher, value_for, Phase, on_promise, on_accepted, Promising, Accepting, Ended, IsGrant, Mem, set_at, Setting, shard, Packet, Promise, Place, Node, Replica, Input, Deliver, ServerKept, ServerLive, ShardState, Proposal, accepted, server_turn, at_set, Offer, Votes, offer, VotesOf, VotesAgree, IsBoundOk}
 use Rattle.photon_model.proofs.ServerRows.{every_row, higher_both, promise_cases, accept_cases}
@@ -32,16 +32,14 @@ module _ (g : Setting) (old : List ℕ) (site : ℕ) (n : Votes) (agree : VotesA
   grant_bound r at b (Some x) h = offers (offer at x.0 x.1) (agree.took at r x.0 x.1 h.1)
 
   value_bound : (own : Batch) (o : Option (Ballot × Batch)) → IsBoundOk g old own.bound → BestBound g old o → IsBoundOk g old (value_for own o).bound
-  value_bound own None h i = h
-  value_bound own (Some x) h i = i
+  value_bound own o h i = grind arith
 
   promise_phase : (own : Batch) (phase : Phase Batch) (r : ℕ) (o : Option (Ballot × Batch)) → IsBoundOk g old own.bound → PhaseBound g old phase → BestBound g old o → PhaseBound g old (on_promise own phase r o).0
   promise_phase own phase r o h i q =
       promise_cases own r o (λ y t. PhaseBound g old y → PhaseBound g old t.0) (λ y x. x) (λ marks best most x. value_bound own (higher best o) h (higher_both (BestBound g old) best o x q)) (λ marks best few x. higher_both (BestBound g old) best o x q) phase i
 
   accepted_bounds : (at : Place) (p : Proposal) → IsBoundOk g old p.own.bound → (phase : Phase Batch) → PhaseBound g old phase → (o : Option Batch) → BoundsOf g old (accepted g site k l at (l.shards at.shard) p phase o).live
-  accepted_bounds at p h phase i None = sets at.shard _ (h, i)
-  accepted_bounds at p h phase i (Some v) = sets at.shard _ tt
+  accepted_bounds at p h phase i o = grind arith
 
   pub turn_bounds : (i : Input) → ((from : Node) (p : Packet) → i ≡ Deliver from p → VotesOf n from p) → BoundsOf g old (server_turn g site k l i).live
   turn_bounds =

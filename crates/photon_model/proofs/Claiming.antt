@@ -1,8 +1,7 @@
 -- Each join in flight has sent its insert.
-use Rattle.std.proofs.Common.{◌≡◌, ◌⊎◌, inl, inr, ⊎_elim, ℕ, List, [], ◌∷◌, ◌++◌, Some, None, refl, sym, ap, ◌∙◌, subst}
+use Rattle.std.proofs.Common.{◌≡◌, ◌⊎◌, inl, inr, ⊎_elim, ℕ, List, [], ◌∷◌, ◌++◌, Some, None, refl, sym, ap, ◌∙◌, subst, arith}
 use Rattle.std.specs.Prelude.{Option}
-use Rattle.photon_model.proofs.Worlds.{row_by}
-use Rattle.photon_model.proofs.Words.{joiner_start, Insert, Mem, set_at, Answer, Granted, Setting, Packet, Claim, Node, Dispatcher, Server, Replica, Joiner, To, Sent, Input, Out, JoinerKept, JoinerLive, Flight, insert_of, answers, joiner_turn, mem_left, mem_right, mem_split, at_set, some_same, none_some, Addressed, World, Entry, Begin, End, Stop, Disks, begun, stopped, joiner_row, sends, after, world_after, May, IsRun, opening, Cell}
+use Rattle.photon_model.proofs.Words.{Insert, Mem, set_at, Answer, Setting, Packet, Claim, Node, Dispatcher, Server, Replica, Joiner, To, Sent, Input, Out, JoinerKept, JoinerLive, Flight, insert_of, answers, joiner_turn, mem_left, mem_right, mem_split, at_set, some_same, none_some, Addressed, World, Entry, Begin, End, Stop, Disks, begun, stopped, joiner_row, sends, after, world_after, May, IsRun, opening, Cell}
 use Rattle.photon_model.proofs.Finding.{addressed}
 use Rattle.photon_model.proofs.JoinerRows.{landed_before, every_row}
 use Rattle.photon_model.specs.Claims.{HasSent, ClaimsSent}
@@ -17,8 +16,7 @@ module _ (g : Setting) (j : ℕ) (k : JoinerKept) (l : JoinerLive) where
   Claimed o = (f : Flight) → Mem f o.live.flight → Mem f l.flight ⊎ ((a : To × Packet) × Mem a o.packets × (a.1 ≡ Claim (insert_of f)))
 
   answers_claimed : (x : Insert) (y : Flight) (a : Answer) → Claimed (answers g j k l x y a)
-  answers_claimed x y Granted f m = inl ((landed_before l.flight x f m).0)
-  answers_claimed x y _ f m = inl ((landed_before l.flight x f m).0)
+  answers_claimed x y a f m = grind (arith, landed_before)
 
   turn_claimed : (i : Input) → Claimed (joiner_turn g j k l i)
   turn_claimed =
@@ -38,9 +36,7 @@ WasFlying None f = ⊥
 WasFlying (Some l) f = Mem f l.flight
 
 row_claimed : (g : Setting) (j : ℕ) (c : Cell JoinerKept JoinerLive) (f : Flight) → Mem f (joiner_row g j c).live.flight → WasFlying c.live f ⊎ ((a : To × Packet) × Mem a (joiner_row g j c).packets × (a.1 ≡ Claim (insert_of f)))
-row_claimed g j c f =
-    row_by joiner_start (joiner_turn g j) c.kept c.live c.opened (λ (o : Out JoinerLive). Mem f o.live.flight → WasFlying c.live f ⊎ ((a : To × Packet) × Mem a o.packets × (a.1 ≡ Claim (insert_of f))))
-    (λ m. absurd m) (λ l up i _ m. ⊎_elim (λ q. inl (subst (λ o. WasFlying o f) (sym up) q)) (λ q. inr q) (turn_claimed g j c.kept l i f m))
+row_claimed g j c f = grind (arith, turn_claimed)
 
 module _ (g : Setting) (w : World) (h : ClaimsSent w) where
   abbrev Sends : List Sent → Option JoinerLive → Type 0

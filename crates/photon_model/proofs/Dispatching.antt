@@ -1,16 +1,10 @@
 -- Each row of a dispatcher keeps its facts.
-use Rattle.std.proofs.Common.{◌≡◌, ◌⊎◌, inl, inr, ⊎_elim, ℕ, ◌<◌, Bool, true, false, not, cond, ◌||◌, ◌&&◌, ◌==◌, List, [], ◌∷◌, ◌++◌, Some, None, refl, sym, ◌∙◌, subst, arith}
+use Rattle.std.proofs.Common.{◌≡◌, ◌⊎◌, inl, inr, ⊎_elim, ℕ, ◌<◌, Bool, true, false, cond, ◌==◌, List, [], ◌∷◌, ◌++◌, Some, None, refl, sym, ◌∙◌, subst, arith}
 use Rattle.std.specs.Prelude.{MatchBool}
-use Rattle.std.proofs.lemmas.Bool.{cond_both, eqb-true, eqb-false, eq-eqb, or_cases, and_parts, true≢false, not-true, cases_eq}
-use Rattle.photon_model.proofs.Words.{ClickLine, at, IsBoundary, first, Mem, Each, Distinct, has, without, Setting, Checked, Packet, Joined, Outcome, Written, Already, Late, NoQuery, Busy, To, Input, Start, Own, Tick, Deliver, Park, Settle, idle, DispatcherKept, DispatcherLive, Fresh, done_end, after_done, first_done, waits, mark_one, mark, has_room, advances, retries, taken_line as taken, takes, with_room, dispatcher_own, fresh_joins, join_if, trying_joins, dispatcher_tick, ends, parks, dispatcher_joined, dispatcher_gets, dispatcher_turn, dispatcher_start, some_same, clash, option_both, each_append, has_push-or, has_push-left, has_push-right, has_push-false, has_without-true, has_without, has_without-false, has_without-self, distinct_push, distinct_without, at_mem, at_own, before_end, granted_settles, Known, values_of, IsSettled, HasNoQuery, DispatcherSound, HoldsOfOutcome, HoldsOf, HoldsOfInput, IsLineOf, Covers, IsFreshSound, DispatcherHolds, PacketsHold, DispatcherKeeps}
+use Rattle.std.proofs.lemmas.Bool.{cond_both, eqb-true, eqb-false, eq-eqb, true≢false, cases_eq}
+use Rattle.photon_model.proofs.Words.{ClickLine, at, IsBoundary, first, Mem, Each, has, without, Setting, Checked, Packet, Joined, Outcome, Written, Already, Late, NoQuery, Busy, To, Input, Start, Own, Tick, Deliver, Park, Settle, idle, DispatcherKept, DispatcherLive, Fresh, done_end, after_done, first_done, waits, mark_one, mark, has_room, advances, retries, taken_line as taken, takes, with_room, dispatcher_own, fresh_joins, join_if, trying_joins, dispatcher_tick, ends, parks, dispatcher_joined, dispatcher_gets, dispatcher_turn, dispatcher_start, some_same, clash, option_both, each_append, has_push-or, has_push-left, has_push-right, has_push-false, has_without-true, has_without, has_without-false, has_without-self, distinct_push, distinct_without, at_mem, at_own, before_end, granted_settles, Known, values_of, IsSettled, HasNoQuery, DispatcherSound, HoldsOfOutcome, HoldsOf, HoldsOfInput, IsLineOf, Covers, IsFreshSound, DispatcherHolds, PacketsHold, DispatcherKeeps}
 
 module _ (g : Setting) (n : Known) where
-  -- an outcome that ends a join settles its id
-  settles : (l : ClickLine) (o : Outcome) → HoldsOfOutcome g n l o → (o ≡ Written) ⊎ (((h : _) × (o ≡ Already h)) ⊎ ((b : ℕ) × (o ≡ Late b))) → IsSettled g n l.click.id
-  settles l o h (inl e) = inr (subst (HoldsOfOutcome g n l) e h)
-  settles l o h (inr (inl (t, e))) = inl (granted_settles (values_of g n l.click.id) l.click.id t (subst (HoldsOfOutcome g n l) e h))
-  settles l o h (inr (inr (b, e))) = inl (inr (let p = subst (HoldsOfOutcome g n l) e h in let x = p.0 in let y = p.1 in omega arith))
-
   -- what the lines before e are: pending or settled
   abbrev Passed : List ℕ → ℕ → Type 0
   Passed pending e = (l : ClickLine) → Mem l g.clicks → l.place < e → (has pending l.place ≡ true) ⊎ IsSettled g n l.click.id
@@ -54,49 +48,11 @@ module _ (g : Setting) (n : Known) where
     advance_keeps : (s : ℕ) → Checked g → DispatcherKeeps g n k (advances g s k l)
     advance_keeps s c =
         let b = skips c k.pending k.offset l.fresh l.place (record { boundary = sound.boundary; passed = sound.passed; covers = holds.covers; each = holds.each }) in
-        record {
-          kept = record { boundary = b.boundary; starts = sound.starts; once = sound.once; passed = b.passed };
-          live = record { covers = b.covers; each = b.each; due_pending = holds.due_pending; trying_pending = holds.trying_pending; due_once = holds.due_once; trying_once = holds.trying_once; apart = holds.apart; others = holds.others; at_end = holds.at_end };
-          packets = tt;
-        }
+        grind arith
 
     -- the first due position is tried
     retry_keeps : (s p : ℕ) (ps : List ℕ) → l.due ≡ p ∷ ps → DispatcherKeeps g n k (retries g s k l p ps (at g.clicks p))
-    retry_keeps s p ps e = option_both (at g.clicks p) (retries g s k l p ps) (DispatcherKeeps g n k) found (λ _. idles)
-      where
-        due_first : has l.due p ≡ true
-        due_first = subst (λ (x : List ℕ). has x p ≡ true) (sym e) (rw (eq-eqb p p refl) refl)
-
-        due_rest : (q : ℕ) → has ps q ≡ true → has l.due q ≡ true
-        due_rest q h = subst (λ (x : List ℕ). has x q ≡ true) (sym e) (rest (p == q) h)
-          where
-            rest : (b : Bool) → has ps q ≡ true → (b || has ps q) ≡ true
-            rest true h = refl
-            rest false h = h
-
-        once : (has ps p ≡ false) × Distinct ps
-        once = subst Distinct e holds.due_once
-
-        found : (x : ClickLine) → at g.clicks p ≡ Some x → DispatcherKeeps g n k (retries g s k l p ps (Some x))
-        found x f =
-            record {
-              kept = sound;
-              live = record {
-                covers = holds.covers;
-                each = holds.each;
-                due_pending = λ q h. holds.due_pending q (due_rest q h);
-                trying_pending = λ q h. ⊎_elim (λ a. holds.trying_pending q a) (λ a. subst (λ y. has k.pending y ≡ true) a (holds.due_pending p due_first)) (has_push-or l.trying p q h);
-                due_once = once.1;
-                trying_once = distinct_push l.trying p holds.trying_once (holds.apart p due_first);
-                apart = λ q h. has_push-false l.trying p q (holds.apart q (due_rest q h)) (λ a. clash (has ps p) (subst (λ y. has ps y ≡ true) (sym a) h) once.0);
-                others = λ q h. ⊎_elim (λ a. inl (⊎_elim (λ d. moved q (subst (λ (z : List ℕ). has z q ≡ true) e d)) (λ t. inr (has_push-left l.trying p q t)) a)) (λ a. inr a) (holds.others q h);
-                at_end = holds.at_end;
-              };
-              packets = ((x, f, refl), tt);
-            }
-          where
-            moved : (q : ℕ) → ((p == q) || has ps q) ≡ true → (has ps q ≡ true) ⊎ (has (l.trying ++ p ∷ []) q ≡ true)
-            moved q h = ⊎_elim (λ a. inr (subst (λ y. has (l.trying ++ p ∷ []) y ≡ true) (eqb-true p q a) (has_push-right l.trying p))) (λ a. inl a) (or_cases (p == q) (has ps q) h)
+    retry_keeps s p ps e = grind (arith, idles, eq-eqb, has_push-or, distinct_push, clash, has_push-left, has_push-right)
 
   covers_push : (e : ℕ) (fs : List Fresh) (p : ℕ) (f : Fresh) → Covers g n e fs p → f.position ≡ p → IsLineOf g n f → Covers g n e (fs ++ f ∷ []) f.end_
   covers_push e [] p f v at_p is = (at_p ∙ sym v, is, refl)
@@ -108,12 +64,7 @@ module _ (g : Setting) (n : Known) where
   -- an entry that is not done is not pending
   waits_free : (pending : List ℕ) (fs : List Fresh) (p : ℕ) → Each (IsFreshSound g n pending) fs → waits fs p ≡ true → has pending p ≡ false
   waits_free pending [] p r h = absurd (true≢false (sym h))
-  waits_free pending (f ∷ fs) p r h =
-      ⊎_elim
-      (λ a. let b = and_parts (f.position == p) (not f.done) a in
-      subst (λ x. has pending x ≡ false) (eqb-true f.position p b.0) (subst (λ x. MatchBool x ((has pending f.position ≡ true) ⊎ IsSettled g n f.click.id) (has pending f.position ≡ false)) (not-true f.done b.1) r.0))
-      (λ a. waits_free pending fs p r.1 a)
-      (or_cases ((f.position == p) && not f.done) (waits fs p) h)
+  waits_free pending (f ∷ fs) p r h = grind (arith, waits_free pending fs p r.1)
 
   -- entries after the one at p is done, and after the pending list has changed at p
   module _ (pending later : List ℕ) (p : ℕ) (x : ClickLine) (is : at g.clicks p ≡ Some x) (now : (has later p ≡ true) ⊎ IsSettled g n x.click.id)
@@ -172,10 +123,7 @@ module _ (g : Setting) (n : Known) where
             }
 
         found : (x : ClickLine) → at g.clicks l.place ≡ Some x → DispatcherKeeps g n k (takes g s k l (Some x))
-        found x e =
-            cond_both (has k.pending x.place) _ _ (DispatcherKeeps g n k)
-            (λ p. record { kept = sound; live = state x e true (inl p); packets = tt })
-            (λ p. record { kept = sound; live = state x e false p; packets = ((x, at_own g.clicks 0 x c.follow (at_mem g.clicks l.place x e).0, refl), tt) })
+        found x e = grind (arith, state, at_mem)
 
     own_keeps : (s : ℕ) → Checked g → DispatcherKeeps g n k (dispatcher_own g s k l)
     own_keeps s c =
@@ -302,19 +250,4 @@ dispatcher_keeps g n s k l (Deliver from packet) c sound holds h = gets_keeps g 
 dispatcher_keeps g n s k l Start c sound holds h = idles g n k l sound holds
 
 pub dispatcher_start_keeps : (g : Setting) (n : Known) (k : DispatcherKept) → DispatcherSound g n k → DispatcherKeeps g n k (dispatcher_start k)
-dispatcher_start_keeps g n k sound =
-    record {
-      kept = sound;
-      live = record {
-        covers = refl;
-        each = tt;
-        due_pending = λ q h. h;
-        trying_pending = λ q h. absurd (true≢false (sym h));
-        due_once = sound.once;
-        trying_once = tt;
-        apart = λ q h. refl;
-        others = λ q h. inl (inl h);
-        at_end = λ e. absurd (true≢false (sym e));
-      };
-      packets = tt;
-    }
+dispatcher_start_keeps g n k sound = grind arith

@@ -2,9 +2,7 @@
 use Rattle.std.proofs.Common.{◌≡◌, ◌⊎◌, inl, inr, ⊎_elim, ℕ, zero, suc, ◌*◌, ◌<◌, ◌≤◌, cond, List, [], ◌∷◌, map, Some, None, refl, sym, ap, ◌∙◌, subst, arith, lit<}
 use Rattle.std.specs.Prelude.{Option, slice_get, is_some, nat_lt}
 use Rattle.std.specs.declared.cmp.Ordering.{Ordering}
-use Rattle.std.specs.declared.cmp.Ordering.TheVariants.{Less, Equal, Greater}
 use Rattle.std.specs.FinMap as finite
-use Rattle.std.specs.FinMap.Entries.{by_order}
 use Rattle.std.proofs.lemmas.Bool.{cond_both, cases_lt, ltb-true, ltb-false}
 use Rattle.photon_model.proofs.Words.{EventId, id_cmp, Token, Batch, IsGranted, bound_of, bound_at, holder, first_insert, granted_means, holder_granted, Mem, some_same, none_some, each_at, Query, Click, ClickLine, first, J, M, X, U, PairRec, Setting, Checked, first_joiner, shard, shard_below, SoundStore, PairSound, IsWritten, known_of, values_of, known, all_pairs, pair_of, line_by, line_of, unwritten_line, IsAtRest, World, Entry, Disks, disks, world_after, IsRun, opening, empty_disks, AllFactsHold, HasBounds, RestLeaves, decided_in}
 use Rattle.time_shards.specs.Shards.{IsTable}
@@ -70,10 +68,7 @@ module _ (g : Setting) (es : List Entry) (c : Checked g) (t : IsTable g.table) (
     logs_old lt = cond_both (nat_lt i.micros g.horizon) (X i) (logs.pair_or_none l.click (first g.queries l.click.query)) (λ x. x ≡ X i) (λ _. refl) (λ f. let ge = ltb-false i.micros g.horizon f in absurd (omega arith))
 
     logs_young : g.horizon ≤ i.micros → (o : Option Query) → first g.queries l.click.query ≡ o → logs.line_of g.queries g.horizon l.click ≡ logs.pair_or_none l.click o
-    logs_young le o e =
-        cond_both (nat_lt i.micros g.horizon) (X i) (logs.pair_or_none l.click (first g.queries l.click.query)) (λ x. x ≡ logs.pair_or_none l.click o)
-        (λ q. let lt = ltb-true i.micros g.horizon q in absurd (omega arith))
-        (λ _. ap (logs.pair_or_none l.click) e)
+    logs_young le o e = grind arith
 
     -- a written click
     with_pair : (p : PairRec) → pair_of g d i ≡ Some p → line_by g d i (Some p) ≡ logs.line_of g.queries g.horizon l.click
@@ -102,8 +97,7 @@ module _ (g : Setting) (es : List Entry) (c : Checked g) (t : IsTable g.table) (
     line_old lt = line_with None (holder_old lt) ∙ cond_both (nat_lt i.micros (bound_of vs)) (X i) (U i) (λ x. x ≡ X i) (λ _. refl) (λ f. let ge = ltb-false i.micros (bound_of vs) f in let b = bound_is in absurd (omega arith))
 
     line_young : g.horizon ≤ i.micros → first_insert vs i ≡ None → unwritten_line g d i ≡ U i
-    line_young le e =
-        line_with None (holder_young le ∙ e) ∙ cond_both (nat_lt i.micros (bound_of vs)) (X i) (U i) (λ x. x ≡ U i) (λ q. let lt = ltb-true i.micros (bound_of vs) q in let b = bound_is in absurd (omega arith)) (λ _. refl)
+    line_young le e = grind (arith, bound_is)
 
     -- a registered click has a query
     has_query : (u : Token) → g.horizon ≤ i.micros → first_insert vs i ≡ Some u → (q : Query) × (first g.queries l.click.query ≡ Some q)
@@ -123,9 +117,7 @@ module _ (g : Setting) (es : List Entry) (c : Checked g) (t : IsTable g.table) (
 
     young : pair_of g d i ≡ None → g.horizon ≤ i.micros → (o : Option Token) → first_insert vs i ≡ o → (f : Option Query) → first g.queries l.click.query ≡ f
         → (unwritten_line g d i ≡ logs.line_of g.queries g.horizon l.click) ⊎ ((unwritten_line g d i ≡ M i) × (g.horizon ≤ i.micros) × ((q : Query) × (first g.queries l.click.query ≡ Some q)))
-    young e le (Some u) k f n = inr (line_with (Some u) (holder_young le ∙ k), le, has_query u le k)
-    young e le None k (Some q) n = absurd (not_forgotten e le k q n)
-    young e le None k None n = inl (line_young le k ∙ sym (logs_young le None n))
+    young e le o k f n = grind (arith, holder_young, has_query, not_forgotten, line_young)
 
     by_pair : (o : Option PairRec) → pair_of g d i ≡ o → (line_by g d i o ≡ logs.line_of g.queries g.horizon l.click) ⊎ ((line_by g d i o ≡ M i) × (g.horizon ≤ i.micros) × ((q : Query) × (first g.queries l.click.query ≡ Some q)))
     by_pair (Some p) e = inl (with_pair p e)
@@ -142,12 +134,7 @@ clicks_are_exact g es c t r rest l m = click_is_exact g es c t r rest l m
 -- the values of a map's entries after an insert
 put_value : {K V : Type 0} (R : K → K → Ordering) (es : List (K × V)) (k : K) (v x : V) → Mem x (map (λ e. e.1) (finite.put R k v es)) → (v ≡ x) ⊎ Mem x (map (λ e. e.1) es)
 put_value R [] k v x n = n
-put_value {K} {V} R (e ∷ es) k v x n = go (R k e.0) n (put_value R es k v x)
-  where
-    go : (o : Ordering) → Mem x (map (λ (p : K × V). p.1) (by_order o ((k, v) ∷ e ∷ es) ((e.0, v) ∷ es) (e ∷ finite.put R k v es))) → (Mem x (map (λ (p : K × V). p.1) (finite.put R k v es)) → (v ≡ x) ⊎ Mem x (map (λ (p : K × V). p.1) es)) → (v ≡ x) ⊎ ((e.1 ≡ x) ⊎ Mem x (map (λ (p : K × V). p.1) es))
-    go Less q ih = q
-    go Equal q ih = ⊎_elim (λ a. inl a) (λ a. inr (inr a)) q
-    go Greater q ih = ⊎_elim (λ a. inr (inl a)) (λ a. ⊎_elim (λ z. inl z) (λ z. inr (inr z)) (ih a)) q
+put_value {K} {V} R (e ∷ es) k v x n = grind (arith, put_value R es k v x)
 
 -- a distinct click is one of the log
 distinct_mem : (cs : List Click) (x : Click) → Mem x (logs.distinct cs) → Mem x cs
@@ -162,8 +149,7 @@ map_same {A} {B} f h (x ∷ xs) e = let a = e x (inl refl) in let rest = map_sam
 
 line_from : (ls : List ClickLine) (x : Click) → Mem x (map (λ (l : ClickLine). l.click) ls) → (l : ClickLine) × Mem l ls × (l.click ≡ x)
 line_from [] x n = absurd n
-line_from (l ∷ ls) x (inl e) = (l, inl refl, e)
-line_from (l ∷ ls) x (inr n) = let h = line_from ls x n in (h.0, inr h.1, h.2)
+line_from (l ∷ ls) x h = grind (arith, line_from ls x)
 
 pub report_is_exact : AtRestFromEmpty ReportIsExact
 report_is_exact g es c t r rest none_missing =
@@ -175,5 +161,4 @@ report_is_exact g es c t r rest none_missing =
     each : (x : Click) → Mem x (logs.distinct clicks) → line_of g (disks (world_after g (opening empty_disks) es)) x.id ≡ logs.line_of g.queries g.horizon x
     each x n =
         let h = line_from g.clicks x (distinct_mem clicks x n) in
-        subst (λ (y : Click). line_of g (disks (world_after g (opening empty_disks) es)) y.id ≡ logs.line_of g.queries g.horizon y) h.2
-        (⊎_elim (λ a. a) (λ a. absurd (none_missing h.0 h.1 a.0)) (clicks_are_exact g es c t r rest h.0 h.1))
+        grind (arith, clicks_are_exact)

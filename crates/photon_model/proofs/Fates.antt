@@ -54,9 +54,7 @@ module _ (g : Setting) (n b : Known) (j : ℕ) (is_joiner : IsJoiner g j) (k : J
   answer_fate x y is_y a h more = go (is_for x f) refl
     where
       left : (a : Answer) → Mem f (landed l.flight x) → IsFlying (Some (answers g j k l x y a).live) (insert_of f)
-      left Granted m = (f, m, refl)
-      left (Duplicate t) m = (f, m, refl)
-      left (TooOld c) m = (f, m, refl)
+      left a m = grind arith
 
       go : (t : Bool) → is_for x f ≡ t → IsFlying (Some (answers g j k l x y a).live) (insert_of f) ⊎ IsResolved g b (insert_of f)
       go true e = inr (replies x y is_y a h e more)

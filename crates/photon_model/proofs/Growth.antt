@@ -1,7 +1,7 @@
 -- Facts that last where more is known: one lemma for each kind of fact.
-use Rattle.std.proofs.Common.{◌≡◌, ◌⊎◌, inl, inr, ⊎_elim, ℕ, ◌≤◌, Bool, true, false, List, [], ◌∷◌, ◌++◌, Some, None, refl, sym, ap, ◌∙◌, subst, arith}
-use Rattle.std.specs.Prelude.{Option, MatchBool, slice_get}
-use Rattle.photon_model.proofs.Words.{EventId, Token, Insert, Batch, ClickLine, Mem, Each, Begins, has, Answer, Granted, Duplicate, TooOld, IsGranted, Setting, Packet, Joined, Claim, Reply, Promise, Accept, Chosen, Outcome, Written, Already, Late, NoQuery, Busy, PairRec, BallotNote, Promised, Took, Phase, Promising, Accepting, Ended, Ballot, DispatcherKept, DispatcherLive, Fresh, JoinerKept, JoinerLive, Flight, ServerLive, ShardState, Proposal, each_more, granted_stays, settled_stays, bound_stays, get_front, Known, values_of, IsWritten, IsSettled, DispatcherSound, PairSound, JoinerSound, IsInsertOf, InsertsOf, IsTooOld, HoldsOfOutcome, HoldsOfReply, HoldsOfBest, HoldsOfPhase, HoldsOf, Covers, IsFreshSound, DispatcherHolds, FlightHolds, JoinerHolds, HoldsOfProposal, ShardHolds, ServerHolds, Grows}
+use Rattle.std.proofs.Common.{◌≡◌, inl, inr, ⊎_elim, ℕ, ◌≤◌, List, [], ◌∷◌, ◌++◌, Some, refl, sym, ap, ◌∙◌, subst, arith}
+use Rattle.std.specs.Prelude.{Option, slice_get}
+use Rattle.photon_model.proofs.Words.{EventId, Token, Insert, Batch, ClickLine, Mem, Each, Begins, Answer, Granted, Duplicate, TooOld, IsGranted, Setting, Packet, Joined, Claim, Reply, Promise, Accept, Chosen, Outcome, Written, Already, Late, NoQuery, Busy, PairRec, BallotNote, Ballot, DispatcherKept, DispatcherLive, Fresh, JoinerKept, JoinerLive, Flight, ServerLive, ShardState, Proposal, each_more, granted_stays, settled_stays, bound_stays, get_front, Known, values_of, IsWritten, IsSettled, DispatcherSound, PairSound, JoinerSound, IsInsertOf, InsertsOf, IsTooOld, HoldsOfOutcome, HoldsOfReply, HoldsOfBest, HoldsOf, IsFreshSound, DispatcherHolds, FlightHolds, JoinerHolds, HoldsOfProposal, ShardHolds, ServerHolds, Grows}
 
 pub begins_self : {A : Type 0} (xs : List A) → Begins xs xs
 begins_self xs = ([], go xs)
@@ -47,8 +47,7 @@ module _ (g : Setting) (a b : Known) (up : Grows a b) where
   inserts_last s xs h = each_more (IsInsertOf g a s) (IsInsertOf g b s) xs (λ x p. (p.0, up.drawn x p.1)) h
 
   best_lasts : (s : ℕ) (o : Option (Ballot × Batch)) → HoldsOfBest g a s o → HoldsOfBest g b s o
-  best_lasts s None h = h
-  best_lasts s (Some x) h = inserts_last s x.1.inserts h
+  best_lasts s o h = grind (arith, inserts_last)
 
   pub packet_lasts : (p : Packet) → HoldsOf g a p → HoldsOf g b p
   packet_lasts (Joined p o) h = (h.0, h.1, outcome_lasts h.0 o h.2)
@@ -63,29 +62,10 @@ module _ (g : Setting) (a b : Known) (up : Grows a b) where
   dispatcher_kept_lasts k s = record { boundary = s.boundary; starts = s.starts; once = s.once; passed = λ l m lt. ⊎_elim (λ h. inl h) (λ h. inr (settled_lasts l.click.id h)) (s.passed l m lt) }
 
   fresh_lasts : (pending : List ℕ) (f : Fresh) → IsFreshSound g a pending f → IsFreshSound g b pending f
-  fresh_lasts pending f h = go f.done h
-    where
-      go : (d : Bool) → MatchBool d ((has pending f.position ≡ true) ⊎ IsSettled g a f.click.id) (has pending f.position ≡ false) → MatchBool d ((has pending f.position ≡ true) ⊎ IsSettled g b f.click.id) (has pending f.position ≡ false)
-      go true h = ⊎_elim (λ x. inl x) (λ x. inr (settled_lasts f.click.id x)) h
-      go false h = h
-
-  covers_last : (e : ℕ) (fs : List Fresh) (p : ℕ) → Covers g a e fs p → Covers g b e fs p
-  covers_last e [] p h = h
-  covers_last e (f ∷ fs) p h = (h.0, h.1, covers_last f.end_ fs p h.2)
+  fresh_lasts pending f h = grind (arith, settled_lasts)
 
   pub dispatcher_live_lasts : (k : DispatcherKept) (l : DispatcherLive) → DispatcherHolds g a k l → DispatcherHolds g b k l
-  dispatcher_live_lasts k l h =
-      record {
-        covers = covers_last k.offset l.fresh l.place h.covers;
-        each = each_more (IsFreshSound g a k.pending) (IsFreshSound g b k.pending) l.fresh (fresh_lasts k.pending) h.each;
-        due_pending = h.due_pending;
-        trying_pending = h.trying_pending;
-        due_once = h.due_once;
-        trying_once = h.trying_once;
-        apart = h.apart;
-        others = h.others;
-        at_end = h.at_end;
-      }
+  dispatcher_live_lasts k l h = grind (arith, each_more, fresh_lasts)
 
   pub pair_lasts : (j e d : ℕ) → e ≤ d → (p : PairRec) → PairSound g a j e p → PairSound g b j d p
   pair_lasts j e d le p s = record { own_query = s.own_query; joiner = s.joiner; epoch = (let q = s.epoch in omega arith); granted = granted_lasts p.click.id p.token s.granted; drawn = up.drawn _ s.drawn }
@@ -106,14 +86,8 @@ module _ (g : Setting) (a b : Known) (up : Grows a b) where
         unwritten = h.unwritten;
       }
 
-  phase_lasts : (s : ℕ) (p : Phase Batch) → HoldsOfPhase g a s p → HoldsOfPhase g b s p
-  phase_lasts s (Promising marks best) h = best_lasts s best h
-  phase_lasts s (Accepting v marks) h = inserts_last s v.inserts h
-  phase_lasts s Ended h = h
-
   proposal_lasts : (s : ℕ) (o : Option Proposal) → HoldsOfProposal g a s o → HoldsOfProposal g b s o
-  proposal_lasts s None h = h
-  proposal_lasts s (Some p) h = (inserts_last s p.own.inserts h.0, phase_lasts s p.phase h.1)
+  proposal_lasts s o h = grind (arith, inserts_last)
 
   pub shard_lasts : (s : ℕ) (st : ShardState) → ShardHolds g a s st → ShardHolds g b s st
   shard_lasts s st h = record { learned = begins_again st.learned (a.values s) (b.values s) h.learned (up.values s); queue = inserts_last s st.queue h.queue; proposal = proposal_lasts s st.proposal h.proposal }
@@ -122,8 +96,7 @@ module _ (g : Setting) (a b : Known) (up : Grows a b) where
   server_lasts l h s = shard_lasts s (l.shards s) (h s)
 
   note_lasts : (x : BallotNote) → InsertsOf g a x → InsertsOf g b x
-  note_lasts (Took p c v) h = inserts_last p.shard v.inserts h
-  note_lasts (Promised p c) h = h
+  note_lasts x h = grind (arith, inserts_last)
 
   pub notes_last : (xs : List BallotNote) → Each (InsertsOf g a) xs → Each (InsertsOf g b) xs
   notes_last xs h = each_more (InsertsOf g a) (InsertsOf g b) xs note_lasts h

@@ -4,8 +4,7 @@ use Rattle.std.specs.Prelude.{Option, is_some}
 use Rattle.std.proofs.lemmas.Bool.{cases_lt, cond_both}
 use Rattle.photon_model.proofs.Worlds.{opened_at, run_append, after_append}
 use Rattle.photon_model.proofs.Local.{same_node-true, same_node-self, own_one}
-use Rattle.photon_model.specs.Local.{own_entry}
-use Rattle.photon_model.proofs.Words.{KeptOf, LiveOf, at_node, land_at, row_of, same_node, clash, Mem, Each, Setting, first_joiner, Checked, Node, Dispatcher, Server, Replica, Joiner, Input, Note, land, none_some, each_append, mem_left, mem_right, IsNode, SoundStore, World, Entry, Begin, End, Stop, Disks, disks, begun, stopped, after, world_after, May, IsRun, opening, left_by, image, Cell}
+use Rattle.photon_model.proofs.Words.{KeptOf, LiveOf, at_node, land_at, row_of, same_node, clash, Mem, Each, Setting, first_joiner, Checked, Node, Dispatcher, Server, Replica, Joiner, Input, Note, land, none_some, each_append, mem_left, mem_right, IsNode, SoundStore, World, Entry, Stop, Disks, disks, stopped, after, world_after, May, IsRun, opening, left_by, image, Cell}
 use Rattle.photon_model.proofs.Closing.{runs_keep_stores}
 
 module _ (g : Setting) (landed : Node → Bool) where
@@ -28,9 +27,7 @@ module _ (g : Setting) (landed : Node → Bool) where
 
   -- what is left of a cell with this turn, if any
   left_of : (w : World) (n : Node) (o : Option Input) (c : Cell (KeptOf n) (LiveOf n)) → c ≡ at_node w n → c.opened ≡ o → land (land_at n) (cond (is_some o && landed n) (row_of g n c).note None) c.kept ≡ left_at w n
-  left_of w n o c same e =
-      ap (λ (x : Cell (KeptOf n) (LiveOf n)). land (land_at n) (cond (is_some o && landed n) (row_of g n x).note None) x.kept) same
-      ∙ ap (λ (x : Option Input). land (land_at n) (cond (is_some x && landed n) (row_of g n (at_node w n)).note None) (at_node w n).kept) (sym e ∙ ap (λ (x : Cell (KeptOf n) (LiveOf n)). x.opened) same)
+  left_of w n o c same e = grind arith
 
   stop_keeps : (w v : World) (n : Node) (i : Input) → opened_at v n ≡ Some i → AllStopped w v → AllStopped w (after g v (Stop n (note_of v n)))
   stop_keeps w v n i e h m =
@@ -115,16 +112,8 @@ node_in g (Joiner j) k = inr (inr (inr (inr (mem_right (Joiner j) (replicas_of g
 
 -- ---- nodes that the setting doesn't have stay closed
 
-abbrev IsClosed : {K L : Type 0} → Cell K L → Type 0
-IsClosed c = c.opened ≡ None
-
 stays_outside : (g : Setting) (w : World) (e : Entry) → May g w e → (n : Node) → (IsNode g n → ⊥) → opened_at w n ≡ None → opened_at (after g w e) n ≡ None
-stays_outside g w e m n no_ h = subst IsClosed (sym (own_one g w n e)) (go e m)
-  where
-    go : (e : Entry) → May g w e → IsClosed (own_entry g n (at_node w n) e)
-    go (Begin k i) m = cond_both (same_node n k) (begun (at_node w n) i) (at_node w n) IsClosed (λ t. absurd (no_ (subst (IsNode g) (sym (same_node-true n k t)) m.0))) (λ _. h)
-    go (End k o ps kept) m = cond_both (same_node n k) _ (at_node w n) IsClosed (λ _. refl) (λ _. h)
-    go (Stop k o) m = cond_both (same_node n k) _ (at_node w n) IsClosed (λ _. refl) (λ _. h)
+stays_outside g w e m n no_ h = grind (arith, own_one)
 
 outside_closed : (g : Setting) (es : List Entry) (w : World) → IsRun g w es → (n : Node) → (IsNode g n → ⊥) → opened_at w n ≡ None → opened_at (world_after g w es) n ≡ None
 outside_closed g [] w r n no_ h = h

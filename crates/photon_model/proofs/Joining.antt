@@ -1,9 +1,9 @@
 -- Each row of a joiner keeps its facts.
-use Rattle.std.proofs.Common.{◌≡◌, ◌≢◌, ◌⊎◌, inl, inr, ⊎_elim, ℕ, suc, ◌<◌, ◌≤◌, Bool, true, false, cond, ◌==◌, List, [], ◌∷◌, ◌++◌, length, map, Some, None, refl, sym, ap, ◌∙◌, subst, arith}
+use Rattle.std.proofs.Common.{◌≡◌, ◌≢◌, inl, ⊎_elim, ℕ, suc, ◌<◌, ◌≤◌, true, false, List, [], ◌∷◌, ◌++◌, length, map, Some, None, refl, sym, ap, ◌∙◌, subst, arith, ◌⊎◌, inr, Bool, cond}
 use Rattle.std.specs.Prelude.{Option}
-use Rattle.std.proofs.lemmas.Bool.{cond_both, eqb-true, or_parts, and_parts, and_from}
+use Rattle.std.proofs.lemmas.Bool.{and_parts, and_from, cond_both, or_parts}
 use Rattle.photon_model.proofs.Worlds.{set_own}
-use Rattle.photon_model.proofs.Words.{EventId, Token, Insert, same_id, same_token, Query, Click, ClickLine, at, first_click, NoConflict, first, Mem, Each, EachPair, Setting, Checked, IsJoiner, Answer, Granted, Duplicate, TooOld, IsGranted, Outcome, NoQuery, Busy, PairRec, Input, Note, Out, idle, land, JoinerKept, JoinerLive, Flight, land_joiner, insert_of, is_for, in_flight, landed, to_dispatcher, claim, next_token, without_flight, answers, joiner_turn, joiner_start, clash, mem_left, mem_right, each_at, each_from, each_more, each_append, pairs_push, at_mem, same_id-true, same_token-true, same_id-refl, same_token-refl, same_id-false, Known, values_of, PairSound, JoinerSound, DrawnSound, IsTooOld, HoldsOfOutcome, HoldsOfReply, HoldsOfInput, FlightHolds, JoinerHolds, PacketsHold, Grows, extended, JoinerKeeps}
+use Rattle.photon_model.proofs.Words.{EventId, Token, Insert, same_id, same_token, Query, Click, ClickLine, at, first_click, first, Mem, Each, Setting, Checked, IsJoiner, Answer, Granted, Duplicate, TooOld, IsGranted, Outcome, NoQuery, Busy, PairRec, Input, Note, Out, idle, land, JoinerKept, JoinerLive, Flight, land_joiner, insert_of, is_for, in_flight, landed, to_dispatcher, claim, next_token, without_flight, answers, joiner_turn, joiner_start, clash, mem_left, mem_right, each_at, each_from, each_more, each_append, pairs_push, at_mem, same_id-true, same_token-true, same_id-refl, same_token-refl, Known, values_of, PairSound, JoinerSound, DrawnSound, IsTooOld, HoldsOfOutcome, HoldsOfReply, HoldsOfInput, FlightHolds, JoinerHolds, PacketsHold, Grows, extended, JoinerKeeps, NoConflict, EachPair, same_id-false}
 use Rattle.photon_model.proofs.JoinerRows.{begun_join, every_row}
 use Rattle.photon_model.proofs.Growth.{begins_self, granted_lasts, late_lasts, joiner_kept_lasts, joiner_live_lasts, flight_lasts, pair_lasts}
 
@@ -43,12 +43,7 @@ not_in_flight (f ∷ fs) i h = let o = or_parts (same_id f.click.id i) (in_fligh
 
 -- what is known grows
 pub grows_extended : (n : Known) (j : ℕ) (old pairs : List PairRec) (new : List Insert) → n.pairs j ≡ old → ((p : PairRec) → Mem p old → Mem p pairs) → Grows n (extended n j pairs new)
-grows_extended n j old pairs new is more =
-    record {
-      values = λ s. begins_self (n.values s);
-      pairs = λ m p h. cond_both (m == j) pairs (n.pairs m) (Mem p) (λ e. more p (subst (λ (l : List PairRec). Mem p l) (ap n.pairs (eqb-true m j e) ∙ is) h)) (λ _. h);
-      drawn = λ x h. mem_right x new n.drawn h;
-    }
+grows_extended n j old pairs new is more = grind (arith, begins_self, mem_right)
 
 module _ (g : Setting) (n : Known) (epochs : ℕ → ℕ) (j : ℕ) (k : JoinerKept) (l : JoinerLive) (c : Checked g) (is_joiner : IsJoiner g j) (own : n.pairs j ≡ k.pairs)
     (drawing : DrawnSound g n epochs) (sound : JoinerSound g n j k) (holds : JoinerHolds g n j k l) where
@@ -214,21 +209,4 @@ pub joiner_keeps : (g : Setting) (n : Known) (epochs : ℕ → ℕ) (j : ℕ) (k
 joiner_keeps g n epochs j k l i c is own d s h x = turn_keeps g n epochs j k l c is own d s h i x
 
 pub joiner_start_keeps : (g : Setting) (n : Known) (epochs : ℕ → ℕ) (j : ℕ) (k : JoinerKept) → n.pairs j ≡ k.pairs → epochs j ≡ k.epoch → DrawnSound g n epochs → JoinerSound g n j k → JoinerKeeps g n j k (joiner_start k)
-joiner_start_keeps g n epochs j k own at_j d s =
-    let up = grows_extended n j k.pairs k.pairs [] own (λ p m. m) in
-    record {
-      new = [];
-      flying = λ x m. absurd m;
-      one = λ x y m. absurd m;
-      drawing = tt;
-      epoch = omega arith;
-      more = λ p m. m;
-      kept = record { pairs = each_more (PairSound g n j k.epoch) (PairSound g (extended n j k.pairs []) j (suc k.epoch)) k.pairs (pair_lasts g n (extended n j k.pairs []) up j k.epoch (suc k.epoch) (omega arith)) s.pairs; once = s.once };
-      live = record {
-        flights = tt;
-        unused = λ x m a b. let e = d.epoch x m in let q : epochs x.token.joiner ≡ k.epoch = ap epochs a ∙ at_j in absurd (omega arith);
-        ids_differ = tt;
-        unwritten = tt;
-      };
-      packets = tt;
-    }
+joiner_start_keeps g n epochs j k own at_j d s = grind (arith, each_more)

@@ -1,7 +1,7 @@
 -- The list of the replicas' journals, and the notes that votes stand in.
-use Rattle.std.proofs.Common.{◌≡◌, ◌≢◌, inl, inr, ⊎_elim, ℕ, zero, suc, ◌+◌, ◌<◌, ◌≤◌, Bool, true, false, cond, List, [], ◌∷◌, ◌++◌, length, get_or, set, Some, None, refl, sym, ap, ◌∙◌, subst, arith}
+use Rattle.std.proofs.Common.{◌≡◌, ◌≢◌, inl, inr, ⊎_elim, ℕ, zero, suc, ◌+◌, ◌<◌, ◌≤◌, Bool, List, [], ◌∷◌, ◌++◌, length, get_or, set, Some, refl, ap, ◌∙◌, subst, arith}
 use Rattle.std.specs.Prelude.{slice_get}
-use Rattle.photon_model.proofs.Words.{Ballot, Place, is_place, Vote, promise, acceptance, vote_at, votes_at, votes_in as votes, Has, Promised, Took as Accepted, HasAccepted, JournalsAgree, IsExact, agreed_one, noted, has_split, place_true, Batch, same_batch, same_batch-true, same_batch-refl, Mem, BallotNote, ReplicaKept, values_from, journals}
+use Rattle.photon_model.proofs.Words.{Ballot, Place, Vote, acceptance, vote_at, votes_at, votes_in as votes, Has, Took as Accepted, HasAccepted, JournalsAgree, IsExact, agreed_one, noted, has_split, Batch, same_batch, same_batch-true, same_batch-refl, Mem, BallotNote, ReplicaKept, values_from, journals}
 use Rattle.ballot_core.proofs.Meets.{some_member}
 use Rattle.paxos_defs.proofs.Decided.{decided_is}
 use Rattle.photon_model.specs.Journals.{decided}
@@ -28,14 +28,8 @@ values_beyond f d from (suc n) (suc i) le = values_beyond f d (suc from) n i (om
 
 values_set : {A : Type 0} (f h : ℕ → A) (v : A) (from n i : ℕ) → i < n → h (from + i) ≡ v → ((k : ℕ) → k ≢ from + i → h k ≡ f k) → values_from h from n ≡ set (values_from f from n) i v
 values_set f h v from zero i lt here others = absurd (omega arith)
-values_set {A} f h v from (suc n) zero lt here others =
-    let a : h from ≡ v = ap h (let e : from ≡ from + 0 = omega arith in e) ∙ here in
-    let rest = values_same h f (suc from) n (λ k le. others k (λ e. omega arith)) in
-    λ i. a i ∷ rest i
-values_set {A} f h v from (suc n) (suc i) lt here others =
-    let a = others from (λ e. omega arith) in
-    let rest = values_set f h v (suc from) n i (omega arith) (ap h (let e : suc from + i ≡ from + suc i = omega arith in e) ∙ here) (λ k ne. others k (λ e. ne (omega arith))) in
-    λ j. a j ∷ rest j
+values_set {A} f h v from (suc n) zero lt here others = grind (arith, values_same)
+values_set {A} f h v from (suc n) (suc i) lt here others = grind (arith, values_set f h v (suc from) n i)
 
 -- ---- journals
 
@@ -51,36 +45,12 @@ module _ (n : ℕ) (f : ℕ → ReplicaKept) where
 
   -- replica r has written a note
   pub journals_noted : (h : ℕ → ReplicaKept) (r : ℕ) (x : BallotNote) → r < n → (h r).notes ≡ (f r).notes ++ x ∷ [] → ((k : ℕ) → k ≢ r → (h k).notes ≡ (f k).notes) → journals n h ≡ noted (journals n f) r x
-  journals_noted h r x lt here others =
-      values_set (λ k. (f k).notes) (λ k. (h k).notes) ((f r).notes ++ x ∷ []) 0 n r lt (ap (λ k. (h k).notes) (let e : 0 + r ≡ r = omega arith in e) ∙ here) (λ k ne. others k (λ e. ne (omega arith)))
-      ∙ ap (λ (ns : List BallotNote). set (journals n f) r (ns ++ x ∷ [])) (sym (journal_of r lt))
-
-  pub journals_same : (h : ℕ → ReplicaKept) → ((k : ℕ) → (h k).notes ≡ (f k).notes) → journals n h ≡ journals n f
-  journals_same h e = values_same (λ k. (h k).notes) (λ k. (f k).notes) 0 n (λ k le. e k)
+  journals_noted h r x lt here others = grind (arith, values_set, journal_of)
 
 -- ---- votes and notes
 
 acceptance_here : (at : Place) (x : BallotNote) (b : Ballot) (v : Batch) → Has (vote_at at x) (acceptance b v) → x ≡ Accepted at b v
-acceptance_here at (Promised q c) b v h = go (is_place q at) h
-  where
-    go : (t : Bool) → Has (cond t (promise c ∷ []) []) (acceptance b v) → Promised q c ≡ Accepted at b v
-    go true (inl e) = absurd (differ (ap (λ (z : Vote Batch). z.value) e))
-      where
-        differ : Some v ≡ None → ⊥
-        differ e = cc
-    go true (inr h) = absurd h
-    go false h = absurd h
-acceptance_here at (Accepted q c w) b v h = go (is_place q at) refl h
-  where
-    go : (t : Bool) → is_place q at ≡ t → Has (cond t (acceptance c w ∷ []) []) (acceptance b v) → Accepted q c w ≡ Accepted at b v
-    go true p (inl e) =
-        let values : Some v ≡ Some w = ap (λ (z : Vote Batch). z.value) e in
-        let ballots : b ≡ c = ap (λ (z : Vote Batch). z.ballot) e in
-        let same : v ≡ w = cc in
-        let places = place_true q at p in
-        λ i. Accepted (places i) (sym ballots i) (sym same i)
-    go true p (inr h) = absurd h
-    go false p h = absurd h
+acceptance_here at x b v h = grind arith
 
 -- an acceptance stands in a note
 pub accepted_note : (at : Place) (notes : List BallotNote) (b : Ballot) (v : Batch) → HasAccepted (votes_at at notes) b v → Mem (Accepted at b v) notes

@@ -1,5 +1,5 @@
 -- From one node's row to the whole world: the other nodes' facts last.
-use Rattle.std.proofs.Common.{◌≡◌, ◌≢◌, inl, inr, ⊎_elim, ℕ, ◌<◌, ◌≤◌, Bool, true, false, cond, ◌==◌, List, ◌++◌, Some, None, refl, sym, ap, ◌∙◌, subst, arith}
+use Rattle.std.proofs.Common.{◌≡◌, ◌≢◌, ⊎_elim, ℕ, ◌<◌, ◌≤◌, Bool, true, false, cond, ◌==◌, List, ◌++◌, Some, None, refl, sym, ap, ◌∙◌, subst, arith}
 use Rattle.std.specs.Prelude.{Option, ◌⊎◌}
 use Rattle.std.proofs.lemmas.Bool.{cond_both, eq-eqb}
 use Rattle.photon_model.proofs.Worlds.{row_by}
@@ -16,16 +16,13 @@ pub addressed_hold : (g : Setting) (n : Known) (from : Node) (as_ : List (To × 
 addressed_hold g n from as_ ps a h x m = let s = sent_addressed g from as_ ps a x m in subst (HoldsOf g n) s.2 (each_at (λ (b : To × Packet). HoldsOf g n b.1) as_ h s.0 s.1)
 
 sent_lasts : (more sent : List Sent) (n : Node) (i : Input) → WasSent sent n i → WasSent (more ++ sent) n i
-sent_lasts more sent n (Deliver from p) h = mem_right _ more sent h
-sent_lasts more sent n _ h = h
+sent_lasts more sent n i h = grind (arith, mem_right)
 
 open_lasts : (more sent : List Sent) (n : Node) (o : Option Input) → IfOpen sent n o → IfOpen (more ++ sent) n o
-open_lasts more sent n None h = h
-open_lasts more sent n (Some i) h = sent_lasts more sent n i h
+open_lasts more sent n o h = grind (arith, sent_lasts)
 
 pub if_up : {L : Type 0} (P Q : L → Type 0) (o : Option L) → ((l : L) → P l → Q l) → IfUp P o → IfUp Q o
-if_up P Q None f h = h
-if_up P Q (Some l) f h = f l h
+if_up P Q o f h = grind arith
 
 module _ (g : Setting) (a b : Known) (up : Grows a b) (more sent : List Sent) where
   dispatcher_lasts : (s : ℕ) (c : Cell DispatcherKept DispatcherLive) → DispatcherFacts g a sent s c → DispatcherFacts g b (more ++ sent) s c
@@ -156,8 +153,7 @@ module _ (g : Setting) (w : World) (drawn : List Insert) (holds : WorldHolds g w
   input_holds n _ m = m
 
   turn_holds : (n : Node) (o : Option Input) → IfOpen w.sent n o → (i : Input) → (o ≡ Some i) ⊎ (i ≡ Own) → HoldsOfInput g now i
-  turn_holds n o h i (inl e) = input_holds n i (subst (IfOpen w.sent n) e h)
-  turn_holds n o h i (inr e) = subst (HoldsOfInput g now) (sym e) tt
+  turn_holds n o h i k = grind (arith, input_holds)
 
   pub dispatcher_row_keeps : Checked g → (s : ℕ) → s < 2 → DispatcherKeeps g now (w.dispatchers s).kept (dispatcher_row g s (w.dispatchers s))
   dispatcher_row_keeps c s lt =

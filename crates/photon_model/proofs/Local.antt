@@ -1,29 +1,17 @@
 -- A node's state in the world is that of its own entries.
-use Rattle.std.proofs.Common.{◌≡◌, ℕ, Bool, true, false, cond, ◌==◌, [], ◌∷◌, refl, sym, ap, ◌∙◌}
-use Rattle.std.proofs.lemmas.Bool.{eqb-true, eq-eqb}
-use Rattle.photon_model.proofs.Words.{clash, set_at, Setting, Node, Dispatcher, Server, Replica, Joiner, land_dispatcher, land_joiner, land_server, land_replica, World, Entry, Begin, End, Stop, begun, ended, stopped, row_of, at_node, after, same_node}
+use Rattle.std.proofs.Common.{◌≡◌, ℕ, true, cond, ◌==◌, [], ◌∷◌, refl, ap, ◌∙◌, arith}
+use Rattle.photon_model.proofs.Words.{set_at, Setting, Node, Dispatcher, Server, Replica, Joiner, land_dispatcher, land_joiner, land_server, land_replica, World, Entry, Begin, End, Stop, begun, ended, stopped, row_of, at_node, after, same_node}
 use Rattle.photon_model.specs.Local.{own_entry, own_state, LocalIsOwn}
 
 pub same_node-true : (a b : Node) → same_node a b ≡ true → a ≡ b
-same_node-true (Dispatcher a) (Dispatcher b) e = ap Dispatcher (eqb-true a b e)
-same_node-true (Server a) (Server b) e = ap Server (eqb-true a b e)
-same_node-true (Replica a) (Replica b) e = ap Replica (eqb-true a b e)
-same_node-true (Joiner a) (Joiner b) e = ap Joiner (eqb-true a b e)
-same_node-true _ _ e = clash false e refl
+same_node-true a b e = grind arith
 
 pub same_node-self : (a : Node) → same_node a a ≡ true
-same_node-self (Dispatcher a) = eq-eqb a a refl
-same_node-self (Server a) = eq-eqb a a refl
-same_node-self (Replica a) = eq-eqb a a refl
-same_node-self (Joiner a) = eq-eqb a a refl
+same_node-self a = grind arith
 
 -- a cell changed at n, read at m, where the change is a function of the number and the cell
 set_own : {A : Type 0} (f : ℕ → A) (change : ℕ → A → A) (n m : ℕ) → set_at f n (change n (f n)) m ≡ cond (m == n) (change m (f m)) (f m)
-set_own f change n m = go (m == n) refl
-  where
-    go : (b : Bool) → (m == n) ≡ b → cond b (change n (f n)) (f m) ≡ cond b (change m (f m)) (f m)
-    go true e = ap (λ k. change k (f k)) (sym (eqb-true m n e))
-    go false e = refl
+set_own f change n m = grind arith
 
 pub own_one : (g : Setting) (w : World) (n : Node) (e : Entry) → at_node (after g w e) n ≡ own_entry g n (at_node w n) e
 own_one g w (Dispatcher s) (Begin (Dispatcher t) i) = set_own w.dispatchers (λ k c. begun c i) t s

@@ -1,7 +1,6 @@
 -- Each row of a server keeps the facts on ballots.
 use Rattle.std.proofs.Common.{◌≡◌, ◌⊎◌, inl, inr, ⊎_elim, ℕ, suc, ◌<◌, ◌≤◌, max, Bool, true, false, cond, ◌==◌, List, [], ◌∷◌, ◌++◌, length, set, Some, None, refl, sym, ap, ◌∙◌, subst, arith}
 use Rattle.std.specs.Prelude.{Option, slice_get}
-use Rattle.std.proofs.lemmas.Bool.{cond_both, eqb-true, and_parts}
 use Rattle.photon_model.proofs.Words.{Ballot, Place, higher, value_for, Phase, is_new, is_most, nobody, on_promise, with_acceptance, on_accepted, Promising, Accepting, Ended, IsGrant, IsOffer, IsAnswered, IsUnheard, IsAsking, IsOffering, IsSafe, IsChosen, votes_in, asks, offers, asks_on, asked, offers_on, accepted_chosen, offer_sent, first_offer, learns_next, Insert, Batch, same_batch, Mem, Each, Begins, set_at, at_set, at_set_if, Setting, shard, Packet, Prepare, Promise, Accept, Accepted, Node, Server, Replica, To, Input, Deliver, Out, idle, ServerKept, ServerLive, ShardState, Proposal, to_replicas, is_current, replies, with_shard, owns, promised, accepted, server_turn, IsOwned, Offer, Votes, offer, Offered, VotesOf, VotesOfPhase, VotesOfProposal, next_place, VotesOfServer, VotesAgree, Known, ServerHolds, IsChosenNow}
 use Rattle.photon_model.proofs.ServerRows.{current_at, replicas_each, reply_each, replies_each, tick_each, every_row, promise_cases, accept_cases}
 use Rattle.photon_model.specs.Journals.{decided}
@@ -35,8 +34,7 @@ module _ (n : Votes) (agree : VotesAgree n) where
       now = offering n (offer at b v ∷ [])
 
       back : (w : Batch) → Offered now at b w → Offered n at b w ⊎ (w ≡ v)
-      back w (inl e) = inr (sym (ap (λ (z : Offer). z.value) e))
-      back w (inr m) = inl m
+      back w h = grind arith
 
   module _ (g : Setting) (members : length n.journals ≡ g.replicas) (site : ℕ) (site_ok : site < 2) (k : ServerKept) (same : n.epochs site ≡ k.epoch) (l : ServerLive) (holds : VotesOfServer n site k.epoch l) where
     abbrev AllVotes : List (To × Packet) → Type 0
@@ -63,8 +61,7 @@ module _ (n : Votes) (agree : VotesAgree n) where
         }
       where
         risen : (t : ℕ) (o : Option Proposal) → VotesOfProposal n site k.epoch l.round (next_place n t (l.shards t)) o → VotesOfProposal n site k.epoch round (next_place n t (l.shards t)) o
-        risen t None h = h
-        risen t (Some p) h = record { site_is = h.site_is; epoch_is = h.epoch_is; round_is = (let q = h.round_is in omega arith); phase = h.phase }
+        risen t o h = grind arith
 
     owned_ballot : (b : Ballot) → b.site ≡ site → b.epoch ≡ k.epoch → IsOwned n.epochs b
     owned_ballot b e f = (subst (λ t. t < 2) (sym e) site_ok, let q : n.epochs b.site ≡ k.epoch = ap n.epochs e ∙ same in omega arith)

@@ -1,25 +1,20 @@
 -- What rest leaves.
-use Rattle.std.proofs.Common.{◌≡◌, ℕ, ◌<◌, ◌≤◌, true, List, [], ◌∷◌, Some, refl, sym, subst, arith, lit<}
+use Rattle.std.proofs.Common.{◌≡◌, ℕ, ◌<◌, ◌≤◌, true, List, [], Some, subst, arith, lit<}
 use Rattle.std.specs.Prelude.{nat_lt, is_none}
-use Rattle.std.proofs.lemmas.Bool.{ltb-false, true≢false}
+use Rattle.std.proofs.lemmas.Bool.{ltb-false}
 use Rattle.std.specs.Prelude.{Option}
 use Rattle.std.proofs.Common.{None}
 use Rattle.photon_model.proofs.Finding.{first_none}
 use Rattle.photon_model.proofs.Worlds.{up_is}
-use Rattle.photon_model.proofs.Words.{holder, bound_of, Setting, Checked, shards, is_empty, JoinerLive, joiner_at_rest, ServerLive, server_at_rest, Mem, EventId, Token, known, SoundStore, accepted_inserts, values_of, IsWritten, IsDrained, UpWith, IsAtRest, World, Entry, Disks, world_after, IsRun, opening, decided_in, HasBounds, IsBoundOk, NoJoinerStops, RestLeaves}
+use Rattle.photon_model.proofs.Words.{holder, bound_of, Setting, Checked, shards, JoinerLive, joiner_at_rest, ServerLive, server_at_rest, Mem, EventId, Token, known, SoundStore, accepted_inserts, values_of, IsWritten, IsDrained, UpWith, IsAtRest, World, Entry, Disks, world_after, IsRun, opening, decided_in, HasBounds, IsBoundOk, NoJoinerStops, RestLeaves}
 use Rattle.photon_model.proofs.Running.{rest_drained}
 use Rattle.photon_model.proofs.Agreeing.{every_run_holds, missing_is_old, bound_is_ok}
 
 none_is : {A : Type 0} (o : Option A) → is_none o ≡ true → o ≡ None
-none_is None e = refl
-none_is (Some x) e = absurd (true≢false (sym e))
+none_is o e = grind arith
 
 no_flights : (l : JoinerLive) → joiner_at_rest l ≡ true → l.flight ≡ []
-no_flights l = go l.flight
-  where
-    go : {A : Type 0} (xs : List A) → is_empty xs ≡ true → xs ≡ []
-    go [] e = refl
-    go (x ∷ xs) e = absurd (true≢false (sym e))
+no_flights l = grind arith
 
 pub rest_is_done : (g : Setting) (d : Disks) (es : List Entry) (old : List ℕ) → Checked g → SoundStore g d → HasBounds g d old → IsRun g (opening d) es → IsAtRest g (world_after g (opening d) es) → RestLeaves g d es old (world_after g (opening d) es)
 rest_is_done g d es old c s has_ r rest = record { drained = drained; bounds = bounds; missing = missing }

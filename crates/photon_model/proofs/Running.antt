@@ -1,8 +1,8 @@
 -- Each entry of a run keeps all facts, and so they hold after every run.
-use Rattle.std.proofs.Common.{◌≡◌, ◌≢◌, ◌⊎◌, inl, inr, ⊎_elim, ℕ, zero, suc, ◌+◌, ◌*◌, ◌<◌, ◌≤◌, true, ◌==◌, List, [], ◌∷◌, ◌++◌, Some, None, refl, sym, ap, ◌∙◌, subst, arith}
+use Rattle.std.proofs.Common.{◌≡◌, ◌≢◌, ◌⊎◌, inl, inr, ⊎_elim, ℕ, zero, suc, ◌+◌, ◌*◌, ◌<◌, ◌≤◌, true, List, [], ◌∷◌, ◌++◌, Some, None, refl, sym, ap, ◌∙◌, subst, arith}
 use Rattle.std.specs.Prelude.{Option, slice_get}
-use Rattle.std.proofs.lemmas.Bool.{cases_Bool, cases_lt, true≢false, and_parts}
-use Rattle.photon_model.proofs.Words.{ReplicaKept, EventId, Token, Insert, same_id, Query, ClickLine, at, end_from, Follow, first, Mem, Each, EachPair, has, set_at, IsGranted, Expired, Setting, first_joiner, Checked, IsJoiner, IsJoin, Dispatcher, Server, Replica, Joiner, PairRec, Input, Note, land, is_empty, DispatcherLive, land_dispatcher, dispatcher_at_rest, JoinerLive, land_joiner, land_server, land_replica, each_at, some_same, none_some, at_own, within_end, one_granted, UpWith, Known, values_of, IsWritten, IsMissing, IsDrained, DispatcherSound, PairSound, InsertsOf, Sound, known, IfUp, WorldHolds, World, Entry, Begin, End, Stop, Disks, begun, ended, stopped, dispatcher_row, server_row, replica_row, joiner_row, sends, after, May, opening, extended, PaxosGives, NoJoinerStops}
+use Rattle.std.proofs.lemmas.Bool.{cases_lt}
+use Rattle.photon_model.proofs.Words.{ReplicaKept, EventId, Token, Insert, same_id, Query, ClickLine, at, end_from, Follow, first, Mem, Each, EachPair, set_at, IsGranted, Expired, Setting, first_joiner, Checked, IsJoiner, IsJoin, Dispatcher, Server, Replica, Joiner, PairRec, Input, Note, land, DispatcherLive, land_dispatcher, dispatcher_at_rest, JoinerLive, land_joiner, land_server, land_replica, each_at, some_same, none_some, at_own, within_end, one_granted, UpWith, Known, values_of, IsWritten, IsMissing, IsDrained, DispatcherSound, PairSound, InsertsOf, Sound, known, IfUp, WorldHolds, World, Entry, Begin, End, Stop, Disks, begun, ended, stopped, dispatcher_row, server_row, replica_row, joiner_row, sends, after, May, opening, extended, PaxosGives, NoJoinerStops}
 use Rattle.photon_model.proofs.Growth.{joiner_kept_lasts, joiner_live_lasts}
 use Rattle.photon_model.proofs.Joining.{grows_extended}
 use Rattle.photon_model.proofs.Fates.{Fates, fates_decided, fates_begun, fates_ended}
@@ -35,8 +35,7 @@ module _ (g : Setting) (c : Checked g) (old : List Insert) (w : World) (drawn : 
           (subst (IfUp (Rattle.photon_model.specs.Facts.JoinerHolds g (known g w drawn) j (w.joiners j).kept)) (sym s) (holds.joiners j is).live)
 
   always_same : (l : Option JoinerLive) → IfUp (λ _. l ≡ l) l
-  always_same None = tt
-  always_same (Some x) = refl
+  always_same l = grind arith
 
   pub step : (e : Entry) → May g w e → PaxosGives g w e → Kept e
   step (Begin (Dispatcher s) i) m p = let f = holds.dispatchers s m.0 in (drawn, dispatcher_replaced g w drawn holds s (begun (w.dispatchers s) i) [] (record { kept = f.kept; live = f.live; opened = m.1.2 }) (λ x q. absurd q), λ t _. t)
@@ -84,15 +83,7 @@ module _ (g : Setting) (c : Checked g) (old : List Insert) (w : World) (drawn : 
       m.1.1
 
 pub opens : (g : Setting) (d : Disks) (drawn : List Insert) → Sound g d drawn → WorldHolds g (opening d) drawn
-opens g d drawn s =
-    record {
-      packets = λ x m. absurd m;
-      dispatchers = λ t lt. record { kept = s.dispatchers t lt; live = tt; opened = tt };
-      joiners = λ j i. record { kept = s.joiners j i; live = tt; opened = tt };
-      servers = λ t lt. record { live = tt; opened = tt };
-      replicas = λ r lt. record { kept = s.inserts r lt; opened = tt };
-      drawing = s.drawing;
-    }
+opens g d drawn s = grind arith
 
 -- ---- what the facts say of clicks
 
@@ -132,33 +123,11 @@ drained g w drawn c h s lt d l q m found fresh =
 
 -- a boundary at which no line begins is the end of the log
 last_boundary : (ls : List ClickLine) (p e : ℕ) → Follow p ls → ((e ≡ p) ⊎ ((l : ClickLine) × Mem l ls × (l.end_ ≡ e))) → at ls e ≡ None → e ≡ end_from p ls
-last_boundary [] p e f (inl h) n = h
-last_boundary [] p e f (inr h) n = absurd h.1
-last_boundary (x ∷ ls) p e f b n = rest (last_boundary ls x.end_ e f.2) b
-  where
-    here : e ≡ x.place → ⊥
-    here q = none_some x (sym n ∙ ap (at (x ∷ ls)) q ∙ at_own (x ∷ ls) p x f (inl refl))
-
-    later : at ls e ≡ None
-    later = sym (Rattle.std.proofs.lemmas.Bool.cond-false (x.place == e) (Some x) (at ls e) (Rattle.std.proofs.lemmas.Bool.ne_eqb x.place e (λ q. here (sym q)))) ∙ n
-
-    rest : ((e ≡ x.end_) ⊎ ((l : ClickLine) × Mem l ls × (l.end_ ≡ e)) → at ls e ≡ None → e ≡ end_from x.end_ ls) → (e ≡ p) ⊎ ((l : ClickLine) × ((x ≡ l) ⊎ Mem l ls) × (l.end_ ≡ e)) → e ≡ end_from x.end_ ls
-    rest ih (inl q) = absurd (here (q ∙ sym f.0))
-    rest ih (inr (l, inl q, r)) = ih (inl (sym r ∙ ap (λ (y : ClickLine). y.end_) (sym q))) later
-    rest ih (inr (l, inr m, r)) = ih (inr (l, m, r)) later
+last_boundary [] p e f h n = grind arith
+last_boundary (x ∷ ls) p e f b n = grind (arith, last_boundary ls x.end_ e f.2)
 
 pub rest_is_drained : (g : Setting) (w : World) (drawn : List Insert) → Checked g → WorldHolds g w drawn → (s : ℕ) (l : DispatcherLive) → s < 2 → (w.dispatchers s).live ≡ Some l → l.ended ≡ true → l.fresh ≡ [] → l.due ≡ [] → l.trying ≡ [] → IsDrained g (w.dispatchers s).kept
-rest_is_drained g w drawn c h s l lt up ended_ fresh due trying =
-    let f = h.dispatchers s lt in
-    let v = subst (IfUp (Rattle.photon_model.specs.Facts.DispatcherHolds g (known g w drawn) (w.dispatchers s).kept)) up f.live in
-    let at_place_ : (w.dispatchers s).kept.offset ≡ l.place = subst (λ (x : List Rattle.turn_defs.specs.Dispatcher.Fresh). Rattle.photon_model.specs.Facts.Covers g (known g w drawn) (w.dispatchers s).kept.offset x l.place) fresh v.covers in
-    record {
-      at_end = last_boundary g.clicks 0 (w.dispatchers s).kept.offset c.follow f.kept.boundary (ap (at g.clicks) at_place_ ∙ v.at_end ended_);
-      no_query = λ p q. ⊎_elim
-          (λ a. ⊎_elim (λ b. absurd (true≢false (sym b ∙ ap (λ (x : List ℕ). has x p) due))) (λ b. absurd (true≢false (sym b ∙ ap (λ (x : List ℕ). has x p) trying))) a)
-          (λ a. a)
-          (v.others p q);
-    }
+rest_is_drained g w drawn c h s l lt up ended_ fresh due trying = grind (arith, last_boundary)
 
 at_place : (ps : List PairRec) (k : ℕ) (p : PairRec) → slice_get ps k ≡ Some p → Mem p ps
 at_place [] k p e = none_some p e
@@ -186,15 +155,7 @@ own_query g w drawn h j k p a u = (each_at (PairSound g (known g w drawn) j (w.j
 
 -- a dispatcher at rest has no line, due position or trial left
 rest_parts : (l : DispatcherLive) → dispatcher_at_rest l ≡ true → (l.ended ≡ true) × (l.fresh ≡ []) × (l.due ≡ []) × (l.trying ≡ [])
-rest_parts l e =
-    let a = and_parts l.ended _ e in
-    let b = and_parts (is_empty l.fresh) _ a.1 in
-    let c = and_parts (is_empty l.due) (is_empty l.trying) b.1 in
-    (a.0, empty_is l.fresh b.0, empty_is l.due c.0, empty_is l.trying c.1)
-  where
-    empty_is : {A : Type 0} (xs : List A) → is_empty xs ≡ true → xs ≡ []
-    empty_is [] e = refl
-    empty_is (x ∷ xs) e = absurd (true≢false (sym e))
+rest_parts l e = grind arith
 
 pub rest_drained : (g : Setting) (w : World) (drawn : List Insert) → Checked g → WorldHolds g w drawn → (s : ℕ) → s < 2 → UpWith (λ l. dispatcher_at_rest l ≡ true) (w.dispatchers s).live → IsDrained g (w.dispatchers s).kept
 rest_drained g w drawn c h s lt = go (w.dispatchers s).live refl

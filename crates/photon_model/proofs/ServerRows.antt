@@ -1,8 +1,8 @@
 -- The rows of a server: what holds of each row's case holds of every turn.
-use Rattle.std.proofs.Common.{◌≡◌, ℕ, zero, suc, ◌+◌, ◌<◌, Bool, true, false, cond, ◌||◌, ◌&&◌, ◌==◌, nat_lt, nat_le, List, [], ◌∷◌, ◌++◌, length, set, Some, None, refl, sym, inl, inr, arith}
+use Rattle.std.proofs.Common.{◌≡◌, ℕ, zero, suc, ◌+◌, ◌<◌, Bool, true, false, cond, ◌&&◌, ◌==◌, nat_lt, List, [], ◌∷◌, ◌++◌, length, set, Some, None, refl, arith}
 use Rattle.std.specs.Prelude.{Option}
 use Rattle.std.proofs.lemmas.Bool.{cond_both, eqb-true, and_parts}
-use Rattle.photon_model.proofs.Words.{MOST_WAITING, Setting, shard, shards, Ballot, Batch, Insert, Place, Answer, replay, Phase, on_promise, on_accepted, Promising, Accepting, Ended, Mem, Each, Packet, Claim, Reply, Prepare, Promise, Nack, Accept, Accepted, Chosen, Node, Replica, Joiner, To, Only, Input, Start, Own, Tick, Deliver, Out, idle, is_next, ServerKept, ServerLive, ShardState, Proposal, queued, to_from, to_replicas, is_below_limit, may_propose, first_shard, is_current, is_own_joiner, reply, reply_if, replies, with_shard, learns, claimed, owns, server_own, promised, accepted, nacked, gets_promise, gets_accepted, gets_nack, of_phase, again, all_again, server_tick, from_replica, server_gets, server_turn, option_both, each_append, is_same, is_below, same_true, higher, value_for, is_new, is_most, nobody, with_promise, with_acceptance}
+use Rattle.photon_model.proofs.Words.{Setting, shard, shards, Ballot, Batch, Insert, Place, Answer, replay, Phase, on_promise, on_accepted, Promising, Accepting, Ended, Mem, Each, Packet, Claim, Reply, Prepare, Promise, Nack, Accept, Accepted, Chosen, Node, Replica, Joiner, To, Only, Input, Own, Tick, Deliver, Out, idle, is_next, ServerKept, ServerLive, ShardState, Proposal, to_from, to_replicas, is_below_limit, may_propose, is_current, is_own_joiner, reply, replies, with_shard, learns, owns, server_own, promised, accepted, nacked, gets_promise, gets_accepted, gets_nack, of_phase, again, all_again, server_tick, from_replica, server_gets, server_turn, option_both, each_append, higher, value_for, is_new, is_most, nobody, with_promise, with_acceptance}
 use Rattle.photon_model.proofs.Finding.{first_is}
 
 -- the next place of a shard
@@ -11,10 +11,7 @@ next_at s st = record { shard = s; slot = length st.learned }
 
 -- a current packet is of the proposal's place and ballot
 pub current_at : (g : Setting) (at : Place) (b : Ballot) (st : ShardState) (p : Proposal) → is_current g at b st p ≡ true → (at ≡ next_at at.shard st) × (b ≡ p.ballot)
-current_at g at b st p h =
-    let u = and_parts (is_next g at st) (is_same p.ballot b) h in
-    let e = eqb-true at.slot (length st.learned) (and_parts (nat_lt at.shard (shards g)) (at.slot == length st.learned) u.0).1 in
-    ((λ i. record { shard = at.shard; slot = e i }), sym (same_true p.ballot b u.1))
+current_at g at b st p h = grind arith
 
 -- ---- the packets of a row
 
@@ -31,10 +28,7 @@ module _ (g : Setting) (site : ℕ) (P : To × Packet → Type 0) where
 
   pub replies_each : (vs : List Batch) (xs : List Insert) → ((x : Insert) (a : Answer) → Mem x xs → replay vs x.id x.token ≡ Some a → is_own_joiner g site x.token.joiner ≡ true → P (Only (Joiner x.token.joiner), Reply x a)) → Each P (replies g site vs xs)
   replies_each vs [] h = tt
-  replies_each vs (x ∷ xs) h =
-      each_append P (reply_if g site x (replay vs x.id x.token)) (replies g site vs xs)
-      (option_both (replay vs x.id x.token) (reply_if g site x) (Each P) (λ a e. reply_each x a (h x a (inl refl) e)) (λ _. tt))
-      (replies_each vs xs (λ y a m. h y a (inr m)))
+  replies_each vs (x ∷ xs) h = grind (arith, replies_each vs xs)
 
   -- a Tick sends the question of each proposal again
   module _ (k : ServerKept) (l : ServerLive) (asks : (s : ℕ) (p : Proposal) (marks : List Bool) (best : Option (Ballot × Batch)) → (l.shards s).proposal ≡ Some p → p.phase ≡ Promising marks best → (i : ℕ) → i < g.replicas → P (Only (Replica i), Prepare (next_at s (l.shards s)) p.ballot))
@@ -71,10 +65,7 @@ module _ (g : Setting) (site : ℕ) (k : ServerKept) (l : ServerLive) where
 
   module _ (P : Input → Out ServerLive → Type 0) (h : Rows P) where
     own : P Own (server_own g site k l)
-    own =
-        cond_both (is_below_limit l.round) _ (idle l) (P Own)
-        (λ _. option_both (first_shard (λ s. may_propose g (l.shards s)) 0 (shards g)) (owns g site k l) (P Own) (λ s e. h.draws s (first_is (λ s. may_propose g (l.shards s)) 0 (shards g) s e).1) (λ _. h.idles Own))
-        (λ _. h.idles Own)
+    own = grind (arith, first_is)
 
     -- the packet is current, or the server is idle
     if_so : (i : Input) (b : Bool) (x : Out ServerLive) → (b ≡ true → P i x) → P i (cond b x (idle l))
@@ -87,10 +78,7 @@ module _ (g : Setting) (site : ℕ) (k : ServerKept) (l : ServerLive) where
     heard r p = h.idles (Deliver (Replica r) p)
 
     gets : (from : Node) (p : Packet) → P (Deliver from p) (server_gets g site k l from p)
-    gets from (Claim x) =
-        option_both (replay (l.shards (shard g x.id)).learned x.id x.token) (claimed g site k l x (shard g x.id) (l.shards (shard g x.id))) (P (Deliver from (Claim x)))
-        (λ a e. h.answers from x a e)
-        (λ _. cond_both (queued (l.shards (shard g x.id)).queue x.token || nat_le MOST_WAITING (length (l.shards (shard g x.id)).queue)) (idle l) _ (P (Deliver from (Claim x))) (λ _. h.idles _) (λ _. h.queues from x))
+    gets from (Claim x) = grind arith
     gets from (Chosen at v) =
         if_so _ (is_next g at (l.shards at.shard) && is_below_limit at.slot) _
         (λ t. h.learns_of from at v (eqb-true at.slot (length (l.shards at.shard).learned) (and_parts (nat_lt at.shard (shards g)) (at.slot == length (l.shards at.shard).learned) (and_parts (is_next g at (l.shards at.shard)) (is_below_limit at.slot) t).0).1))
@@ -98,17 +86,12 @@ module _ (g : Setting) (site : ℕ) (k : ServerKept) (l : ServerLive) where
     gets from p = h.idles (Deliver from p)
 
     pub every_row : (i : Input) → P i (server_turn g site k l i)
-    every_row Own = own
-    every_row Tick = h.ticks
-    every_row (Deliver from p) = gets from p
-    every_row Start = h.idles Start
+    every_row i = grind (arith, own, gets)
 
 -- ---- what an answer makes of a phase
 
 pub higher_both : (P : Option (Ballot × Batch) → Type 0) (a b : Option (Ballot × Batch)) → P a → P b → P (higher a b)
-higher_both P None b h i = i
-higher_both P (Some x) None h i = h
-higher_both P (Some x) (Some y) h i = cond_both (is_below x.0 y.0) (Some y) (Some x) P (λ _. i) (λ _. h)
+higher_both P a b h i = grind arith
 
 pub promise_cases :
     (own : Batch) (r : ℕ) (o : Option (Ballot × Batch)) (P : Phase Batch → Phase Batch × Option Batch → Type 0) → ((y : Phase Batch) → P y (y, None)) →

@@ -1,7 +1,7 @@
 -- Each row of a registry server keeps its facts.
-use Rattle.std.proofs.Common.{◌≡◌, ℕ, zero, suc, List, [], ◌∷◌, ◌++◌, length, take, Some, None, refl, sym, ap, ◌∙◌, subst, arith}
+use Rattle.std.proofs.Common.{◌≡◌, ℕ, zero, suc, List, [], ◌∷◌, ◌++◌, length, take, Some, None, refl, sym, ap, subst, arith}
 use Rattle.std.specs.Prelude.{Option, slice_get}
-use Rattle.photon_model.proofs.Words.{goes_on, each_at, Ballot, Insert, Batch, higher, value_for, Phase, on_promise, on_accepted, Each, Begins, Answer, Granted, Duplicate, TooOld, replay, Setting, shard, Packet, Prepare, Accept, Place, To, Input, ServerKept, ServerLive, ShardState, Proposal, replies, keep_if, unanswered, learns, with_shard, promised, accepted, server_turn, server_start, some_same, none_some, option_both, each_append, at_set, Replays, replay_means, granted_stays, bound_stays, Known, values_of, IsInsertOf, HoldsOfReply, HoldsOfBatch, HoldsOfBest, HoldsOfPhase, HoldsOf, HoldsOfInput, HoldsOfProposal, ShardHolds, ServerHolds, PacketsHold, ServerKeeps, IsChosenNow}
+use Rattle.photon_model.proofs.Words.{goes_on, each_at, Ballot, Insert, Batch, higher, value_for, Phase, on_promise, on_accepted, Each, Begins, Answer, Granted, Duplicate, TooOld, replay, Setting, shard, Packet, Prepare, Accept, Place, To, Input, ServerKept, ServerLive, ShardState, Proposal, replies, unanswered, learns, with_shard, promised, accepted, server_turn, server_start, some_same, none_some, each_append, at_set, Replays, replay_means, granted_stays, bound_stays, Known, values_of, IsInsertOf, HoldsOfReply, HoldsOfBatch, HoldsOfBest, HoldsOfPhase, HoldsOf, HoldsOfInput, HoldsOfProposal, ShardHolds, ServerHolds, PacketsHold, ServerKeeps, IsChosenNow}
 use Rattle.photon_model.proofs.ServerRows.{next_at, current_at, replicas_each, reply_each, replies_each, tick_each, every_row, higher_both, promise_cases, accept_cases}
 
 -- a list that begins another goes on with what stands there
@@ -9,14 +9,7 @@ begins_next : (xs ys : List Batch) (v : Batch) → Begins xs ys → slice_get ys
 begins_next [] [] v b e = none_some v e
 begins_next [] (y ∷ ys) v b e = (ys, ap (λ (z : Batch). z ∷ ys) (some_same y v e))
 begins_next (x ∷ xs) [] v b e = none_some v e
-begins_next (x ∷ xs) (y ∷ ys) v b e =
-    let h = begins_next xs ys v (b.0, tail b.1) e in (h.0, ap (λ (z : List Batch). y ∷ z) h.1 ∙ ap (λ (z : Batch). z ∷ ((xs ++ v ∷ []) ++ h.0)) (head b.1))
-  where
-    tail : y ∷ ys ≡ x ∷ (xs ++ b.0) → ys ≡ xs ++ b.0
-    tail q = cc
-
-    head : y ∷ ys ≡ x ∷ (xs ++ b.0) → y ≡ x
-    head q = cc
+begins_next (x ∷ xs) (y ∷ ys) v b e = grind (arith, begins_next xs ys v)
 
 take_each : (P : Insert → Type 0) (m : ℕ) (xs : List Insert) → Each P xs → Each P (take m xs)
 take_each P zero xs h = tt
@@ -41,9 +34,7 @@ module _ (g : Setting) (n : Known) where
 
     unanswered_each : (P : Insert → Type 0) (vs : List Batch) (xs : List Insert) → Each P xs → Each P (unanswered g site vs xs)
     unanswered_each P vs [] h = tt
-    unanswered_each P vs (x ∷ xs) h =
-        let rest = unanswered_each P vs xs h.1 in
-        option_both (replay vs x.id x.token) (λ o. keep_if g site x o (unanswered g site vs xs)) (Each P) (λ a e. rest) (λ e. (h.0, rest))
+    unanswered_each P vs (x ∷ xs) h = grind (arith, unanswered_each P vs xs h.1)
 
     -- the value at the next slot is learned
     learns_holds : (s : ℕ) (st : ShardState) (v : Batch) → ShardHolds g n s st → slice_get (n.values s) (length st.learned) ≡ Some v → ShardHolds g n s (learns g site st v)
@@ -61,8 +52,7 @@ module _ (g : Setting) (n : Known) where
       goes s p phase own h = sets s _ (record { learned = (holds s).learned; queue = (holds s).queue; proposal = (own, h) })
 
       value_holds : (s : ℕ) (own : Batch) (o : Option (Ballot × Batch)) → HoldsOfBatch g n s own → HoldsOfBest g n s o → HoldsOfBatch g n s (value_for own o)
-      value_holds s own None h i = h
-      value_holds s own (Some x) h i = i
+      value_holds s own o h i = grind arith
 
       abbrev OfTurn : ℕ → Phase Batch × Option Batch → Type 0
       OfTurn s (phase, None) = HoldsOfPhase g n s phase

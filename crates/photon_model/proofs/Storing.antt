@@ -1,31 +1,13 @@
 -- The empty store, longer logs, records that stay.
-use Rattle.std.proofs.Common.{◌≡◌, inl, inr, ⊎_elim, ℕ, ◌≤◌, Bool, true, false, cond, List, [], ◌∷◌, ◌++◌, Some, refl, sym, ap, subst, arith}
-use Rattle.std.specs.Prelude.{Option, find}
-use Rattle.std.proofs.lemmas.Bool.{true≢false}
-use Rattle.photon_model.proofs.Words.{Insert, Query, Click, ClickLine, end_from, Follow, IsBoundary, Mem, Begins, set_at, Setting, Checked, IsJoin, Replica, Joiner, PairRec, BallotNote, Note, Output, Voted, land, Place, Vote, acceptance, votes_at, votes_in as votes, Has, Promised, Took as Accepted, NeverFall, Batch, JoinerKept, JoinerLive, land_joiner, ReplicaKept, land_replica, none_some, mem_left, mem_split, each_more, at_set, journals, Known, known_of, DispatcherSound, PairSound, DrawnSound, InsertsOf, Sound, SoundStore, accepted_inserts, World, Entry, Begin, End, Stop, Disks, begun, after, world_after, Store, WholeSound, empty_disks, ReadIsChecked, IsLonger, Cell}
+use Rattle.std.proofs.Common.{◌≡◌, inl, inr, ⊎_elim, ℕ, ◌≤◌, Bool, List, [], ◌∷◌, ◌++◌, Some, sym, subst, arith, refl}
+use Rattle.std.specs.Prelude.{find, Option}
+use Rattle.photon_model.proofs.Words.{Insert, Query, Click, ClickLine, end_from, Follow, IsBoundary, Mem, Begins, Setting, Checked, IsJoin, PairRec, BallotNote, none_some, mem_left, mem_split, each_more, Known, known_of, DispatcherSound, PairSound, DrawnSound, InsertsOf, Sound, SoundStore, accepted_inserts, World, Entry, Disks, after, world_after, Store, WholeSound, empty_disks, ReadIsChecked, IsLonger, set_at, Replica, Joiner, Note, Output, Voted, land, JoinerKept, JoinerLive, land_joiner, ReplicaKept, land_replica, at_set, Begin, End, Stop, begun, Cell}
 use Rattle.photon_model.proofs.Journals.{journal_beyond, votes_of}
 use Rattle.log_records.proofs.Places.{queries_begin, lines_begin, lines_follow}
 use Rattle.photon_model.proofs.Growth.{begins_self, begins_again}
 
 pub empty_sound : (g : Setting) → Sound g empty_disks []
-empty_sound g =
-    record {
-      replicas = record {
-        agree = λ p. record { rising = λ r. subst NeverFall (sym (none p r)) tt; one_value = λ r b v h. absurd (subst (λ (xs : List (Vote Batch)). Has xs (acceptance b v)) (none p r) h); safe = λ r b v h. absurd (subst (λ (xs : List (Vote Batch)). Has xs (acceptance b v)) (none p r) h) };
-        owned = λ p r x h. absurd (subst (λ (xs : List (Vote Batch)). Has xs x) (none p r) h);
-      };
-      joiners = λ j i. record { pairs = tt; once = tt };
-      dispatchers = λ s lt. record { boundary = inl refl; starts = λ p h. absurd (true≢false (sym h)); once = tt; passed = λ l m lt. absurd (omega arith) };
-      drawing = record { joinable = λ x m. absurd m; joiner = λ x m. absurd m; epoch = λ x m. absurd m; one_id = λ x y m. absurd m };
-      inserts = λ r lt. tt;
-    }
-  where
-    none : (p : Place) (r : ℕ) → votes (journals g.replicas (λ k. record { notes = [] })) p r ≡ []
-    none p r =
-        ⊎_elim
-        (λ lt. votes_of g.replicas (λ k. record { notes = [] }) p r lt)
-        (λ le. ap (votes_at p) (journal_beyond g.replicas (λ k. record { notes = [] }) r le))
-        (Rattle.std.proofs.lemmas.Bool.cases_lt r g.replicas)
+empty_sound g = grind (arith, votes_of, journal_beyond)
 
 -- ---- longer logs
 
@@ -35,11 +17,7 @@ longer g qs cs horizon batch = record { queries = g.queries ++ qs; clicks = g.cl
 
 find_front : {A : Type 0} (p : A → Bool) (xs ys : List A) (y : A) → find p xs ≡ Some y → find p (xs ++ ys) ≡ Some y
 find_front p [] ys y e = none_some y e
-find_front p (x ∷ xs) ys y e = go (λ q. find_front p xs ys y q) (p x) e
-  where
-    go : (find p xs ≡ Some y → find p (xs ++ ys) ≡ Some y) → (b : Bool) → cond b (Some x) (find p xs) ≡ Some y → cond b (Some x) (find p (xs ++ ys)) ≡ Some y
-    go ih true q = q
-    go ih false q = ih q
+find_front p (x ∷ xs) ys y e = grind (arith, find_front p xs ys y)
 
 end_of : (ls : List ClickLine) (p : ℕ) (l : ClickLine) → Follow p ls → Mem l ls → l.end_ ≤ end_from p ls
 end_of [] p l f m = absurd m
@@ -62,8 +40,7 @@ module _ (g : Setting) (qs : List Query) (cs : List ClickLine) (horizon batch : 
   join_lasts x q h = ((h.0.0, find_front _ g.clicks cs h.0.0 h.0.1, h.0.2), find_front _ g.queries qs q h.1)
 
   offset_within : (p : ℕ) → IsBoundary g.clicks p → p ≤ end_from 0 g.clicks
-  offset_within p (inl e) = omega arith
-  offset_within p (inr h) = let q = end_of g.clicks 0 h.0 (follow_front g.clicks cs 0 c.follow).0 h.1 in let r = h.2 in omega arith
+  offset_within p h = grind (arith, end_of, follow_front)
 
   dispatcher_longer : (k : Rattle.turn_defs.specs.Dispatcher.DispatcherKept) → DispatcherSound g n k → DispatcherSound (longer g qs cs horizon batch) n k
   dispatcher_longer k s =
@@ -81,8 +58,7 @@ module _ (g : Setting) (qs : List Query) (cs : List ClickLine) (horizon batch : 
   drawn_longer epochs s = record { joinable = λ x m. let h = s.joinable x m in (h.0, mem_left h.0 g.clicks cs h.1, h.2, (h.3.0, find_front _ g.queries qs h.3.0 h.3.1)); joiner = s.joiner; epoch = s.epoch; one_id = s.one_id }
 
   note_longer : (x : BallotNote) → InsertsOf g n x → InsertsOf (longer g qs cs horizon batch) n x
-  note_longer (Accepted p b v) h = h
-  note_longer (Promised p b) h = h
+  note_longer x h = grind arith
 
 pub sound_lasts : (g : Setting) (qs : List Query) (cs : List ClickLine) (horizon batch : ℕ) (d : Disks) (drawn : List Insert) → Checked (longer g qs cs horizon batch) → Sound g d drawn → Sound (longer g qs cs horizon batch) d drawn
 sound_lasts g qs cs horizon batch d drawn c s =

@@ -1,8 +1,8 @@
 -- What verification says of a store's records is what the report says.
-use Rattle.std.proofs.Common.{◌≡◌, ℕ, zero, suc, ◌*◌, ◌&&◌, true, not, List, [], ◌++◌, Some, None, ◌↔◌, refl, sym, ap, ◌∙◌}
+use Rattle.std.proofs.Common.{◌≡◌, ℕ, zero, suc, ◌*◌, ◌&&◌, true, not, List, [], ◌++◌, ◌↔◌, refl, sym, ap, ◌∙◌, arith}
 use Rattle.std.specs.Prelude.{Option, IsSome, is_some}
 use Rattle.std.specs.List.{flat_map}
-use Rattle.photon_model.proofs.Words.{EventId, none_some, Token, Batch, same_batch, holder, decided, PairRec, Setting, first_joiner, shard, BallotNote, values_from, pairs_from, decided_for, pair_of, Disks, IsWritten, IsMissing, known_of}
+use Rattle.photon_model.proofs.Words.{EventId, Token, Batch, same_batch, holder, decided, PairRec, Setting, first_joiner, shard, BallotNote, values_from, pairs_from, decided_for, pair_of, Disks, IsWritten, IsMissing, known_of}
 use Rattle.photon_model.specs.Report as report
 use Rattle.verify_pass.specs.declared.journals.Journals.{Journals}
 use Rattle.verify_pass.specs.Classes as classes
@@ -25,8 +25,7 @@ module _ (g : Setting) (d : Disks) (js : Journals) (own : AreOf g d js) (i : Eve
   values = ap (λ (ns : List (List BallotNote)). decided same_batch ns (shard g i)) own.notes
 
   line_by : (o : Option PairRec) → classes.line_by (decided_for g d i) i o ≡ report.line_by g d i o
-  line_by None = refl
-  line_by (Some p) = refl
+  line_by o = grind arith
 
   pub line : classes.line_of js g.table i ≡ report.line_of g d i
   line =
@@ -36,26 +35,20 @@ module _ (g : Setting) (d : Disks) (js : Journals) (own : AreOf g d js) (i : Eve
 
   -- where the report has a pair the id is written
   is_written : (o : Option PairRec) → pair_of g d i ≡ o → IsSome o → IsWritten g (known_of g d []) i
-  is_written None e s = absurd cc
-  is_written (Some p) e s = written g d i p e
+  is_written o e s = grind (arith, written)
 
   has_pair : (o : Option PairRec) → pair_of g d i ≡ o → IsWritten g (known_of g d []) i → IsSome o
-  has_pair None e w = absurd (unwritten g d i e w)
-  has_pair (Some p) e w = refl
+  has_pair o e w = grind (arith, unwritten)
 
   pub found : IsSome (classes.first_pair (classes.all_pairs js) i) ↔ IsWritten g (known_of g d []) i
   found = (is_written (classes.first_pair (classes.all_pairs js) i) (sym pair), has_pair (classes.first_pair (classes.all_pairs js) i) (sym pair))
 
   -- an id with a holder and no pair is missing, and no other
   shows : (t : Option Token) (o : Option PairRec) → holder (decided_for g d i) i ≡ t → pair_of g d i ≡ o → (is_some t && not (is_some o)) ≡ true → IsMissing g (known_of g d []) i
-  shows None o h e q = absurd cc
-  shows (Some t) None h e q = ((t, h), unwritten g d i e)
-  shows (Some t) (Some p) h e q = absurd cc
+  shows t o h e q = grind (arith, unwritten)
 
   shown : (t : Option Token) (o : Option PairRec) → holder (decided_for g d i) i ≡ t → pair_of g d i ≡ o → IsMissing g (known_of g d []) i → (is_some t && not (is_some o)) ≡ true
-  shown None o h e m = none_some m.0.0 (sym h ∙ m.0.1)
-  shown (Some t) None h e m = refl
-  shown (Some t) (Some p) h e m = absurd (m.1 (written g d i p e))
+  shown t o h e m = grind (arith, written)
 
   pub missing : (classes.is_missing js g.table i ≡ true) ↔ IsMissing g (known_of g d []) i
   missing = (

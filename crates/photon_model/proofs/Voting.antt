@@ -1,7 +1,7 @@
 -- Each row of a replica keeps the facts on ballots, and these facts last where more is written or sent.
-use Rattle.std.proofs.Common.{◌≡◌, ◌≢◌, ⊎_elim, ℕ, ◌<◌, ◌≤◌, Bool, true, false, List, [], ◌∷◌, ◌++◌, length, get_or, Some, None, refl, sym, ap, ◌∙◌, subst, arith}
+use Rattle.std.proofs.Common.{◌≡◌, ◌≢◌, ⊎_elim, ℕ, ◌<◌, ◌≤◌, Bool, List, [], ◌∷◌, ◌++◌, length, get_or, Some, None, refl, sym, ap, ◌∙◌, subst, arith}
 use Rattle.std.specs.Prelude.{Option, ⊤}
-use Rattle.photon_model.proofs.Words.{Ballot, Place, is_place, note_of, Vote, acceptance, vote_at, votes_at, votes_in, Has, cell_of, HasAccepted, Prepared, Taken, on_prepare, on_accept, Grant, Refuse, Take, Decline, Phase, Promising, Accepting, Ended, IsOffer, IsUnheard, Writes, has_last, noted, has_split, place_true, vote_here, vote_elsewhere, votes_noted, votes_others, Suits, vote_suits, note_writes, note_agrees, grant_written, refusal_written, offer_written, answer_written, asking_written, offering_written, asking_sent, offering_sent, Batch, same_batch, Mem, Each, Packet, Prepare, Promise, Nack, Accept, Accepted, Node, Server, Replica, To, BallotNote, Note, Voted, Out, idle, ServerLive, Proposal, ReplicaKept, cell_at, note_at, prepared, taken, replica_gets, mem_right, mem_split, IsOwned, Offer, offer, Votes, Offered, PromisedBy, AcceptedBy, NackedBy, VotesOf, VotesOfPhase, VotesOfProposal, next_place, VotesOfServer, VotesAgree}
+use Rattle.photon_model.proofs.Words.{Ballot, Place, note_of, Vote, acceptance, vote_at, votes_at, votes_in, Has, cell_of, HasAccepted, Prepared, Taken, on_prepare, on_accept, Grant, Refuse, Take, Decline, Phase, Promising, Accepting, Ended, IsOffer, IsUnheard, Writes, has_last, noted, has_split, vote_here, votes_noted, votes_others, Suits, vote_suits, note_writes, note_agrees, grant_written, refusal_written, offer_written, answer_written, asking_written, offering_written, asking_sent, offering_sent, Batch, same_batch, Mem, Each, Packet, Prepare, Promise, Nack, Accept, Accepted, Node, Server, Replica, To, BallotNote, Note, Voted, Out, idle, ServerLive, Proposal, ReplicaKept, cell_at, note_at, prepared, taken, replica_gets, mem_right, mem_split, IsOwned, Offer, offer, Votes, Offered, PromisedBy, AcceptedBy, NackedBy, VotesOf, VotesOfPhase, VotesOfProposal, next_place, VotesOfServer, VotesAgree}
 use Rattle.paxos_defs.proofs.Cells.{Knows, cell_knows}
 use Rattle.paxos_defs.proofs.Turns.{after, PreparedHolds, IsPromiseVote, prepare_holds, TakenHolds, IsAcceptanceVote, accept_holds}
 
@@ -56,10 +56,7 @@ module _ (n : Votes) (js : List (List BallotNote)) (writes : (at : Place) → Wr
   nacked_written _ at b c h = h
 
   pub votes_written : (from : Node) (p : Packet) → VotesOf n from p → VotesOf written from p
-  votes_written from (Promise at b o) h = promised_written from at b o h
-  votes_written from (Accepted at b) h = accepted_written from at b h
-  votes_written from (Nack at b c) h = nacked_written from at b c h
-  votes_written from _ h = h
+  votes_written from p h = grind (arith, promised_written, accepted_written, nacked_written)
 
   phase_written : (at : Place) (b : Ballot) (phase : Phase Batch) → VotesOfPhase n at b phase → VotesOfPhase written at b phase
   phase_written at b (Promising marks best) h = asking_written (writes at) b marks best h
@@ -67,8 +64,7 @@ module _ (n : Votes) (js : List (List BallotNote)) (writes : (at : Place) → Wr
   phase_written at b Ended h = h
 
   proposal_written : (site epoch round : ℕ) (at : Place) (o : Option Proposal) → VotesOfProposal n site epoch round at o → VotesOfProposal written site epoch round at o
-  proposal_written site epoch round at None h = h
-  proposal_written site epoch round at (Some p) h = record { site_is = h.site_is; epoch_is = h.epoch_is; round_is = h.round_is; phase = phase_written at p.ballot p.phase h.phase }
+  proposal_written site epoch round at o h = grind (arith, phase_written)
 
   pub server_written : (site epoch : ℕ) (l : ServerLive) → VotesOfServer n site epoch l → VotesOfServer written site epoch l
   server_written site epoch l h = record { rounds = h.rounds; shards = λ s. proposal_written site epoch l.round (next_place n s (l.shards s)) (l.shards s).proposal (h.shards s) }
@@ -86,8 +82,7 @@ module _ (n : Votes) (new : List Offer) (epochs : ℕ → ℕ) (up : (s : ℕ) �
   owned_sent b h = (h.0, let p = h.1 in let q = up b.site in omega arith)
 
   accepted_sent : (from : Node) (at : Place) (b : Ballot) → AcceptedBy n from at b → AcceptedBy sent from at b
-  accepted_sent (Replica r) at b h = (h.0, offered_sent at b h.0 h.1, h.2)
-  accepted_sent _ at b h = h
+  accepted_sent from at b h = grind (arith, offered_sent)
 
   promised_sent : (from : Node) (at : Place) (b : Ballot) (o : Option (Ballot × Batch)) → PromisedBy n from at b o → PromisedBy sent from at b o
   promised_sent _ at b o h = h
@@ -113,8 +108,7 @@ module _ (n : Votes) (new : List Offer) (epochs : ℕ → ℕ) (up : (s : ℕ) �
   phase_sent at b Ended apart h = h
 
   pub proposal_sent : (site epoch round now : ℕ) (at : Place) (o : Option Proposal) → round ≤ now → ((p : Proposal) → o ≡ Some p → AreElsewhere at p.ballot) → VotesOfProposal n site epoch round at o → VotesOfProposal sent site epoch now at o
-  proposal_sent site epoch round now at None le apart h = h
-  proposal_sent site epoch round now at (Some p) le apart h = record { site_is = h.site_is; epoch_is = h.epoch_is; round_is = (let q = h.round_is in omega arith); phase = phase_sent at p.ballot p.phase (apart p refl) h.phase }
+  proposal_sent site epoch round now at o le apart h = grind (arith, phase_sent)
 
   -- a server's facts last where all new values are of another site
   pub server_sent : (site epoch : ℕ) (l : ServerLive) → ((x : Offer) → Mem x new → x.ballot.site ≢ site) → VotesOfServer n site epoch l → VotesOfServer sent site epoch l
@@ -125,18 +119,13 @@ module _ (n : Votes) (new : List Offer) (epochs : ℕ → ℕ) (up : (s : ℕ) �
       }
     where
       one : (s : ℕ) (o : Option Proposal) → VotesOfProposal n site epoch l.round (next_place n s (l.shards s)) o → VotesOfProposal sent site epoch l.round (next_place n s (l.shards s)) o
-      one s None k = k
-      one s (Some p) k = proposal_sent site epoch l.round l.round (next_place n s (l.shards s)) (Some p) (omega arith) (λ q e x m _ same. let i : p ≡ q = cc in apart x m (ap (λ (c : Ballot). c.site) same ∙ ap (λ (z : Proposal). z.ballot.site) (sym i) ∙ k.site_is)) k
+      one s o k = grind (arith, proposal_sent)
 
 -- ---- a replica's rows
 
 -- the note of a vote has that vote alone
 vote_is : (q at : Place) (x y : Vote Batch) → Has (vote_at q (note_of at x)) y → y ≡ x
-vote_is q at x y = go (is_place at q) refl
-  where
-    go : (t : Bool) → is_place at q ≡ t → Has (vote_at q (note_of at x)) y → y ≡ x
-    go true e h = ⊎_elim (λ k. k) (λ k. absurd k) (subst (λ (xs : List (Vote Batch)). Has xs y) (subst (λ (z : Place). vote_at z (note_of at x) ≡ x ∷ []) (place_true at q e) (vote_here at x)) h)
-    go false e h = absurd (subst (λ (xs : List (Vote Batch)). Has xs y) (vote_elsewhere at q x e) h)
+vote_is q at x y = grind arith
 
 module _ (n : Votes) (agree : VotesAgree n) (r : ℕ) (within : r < length n.journals) where
   abbrev votes_here : Place → List (Vote Batch)
@@ -161,8 +150,7 @@ module _ (n : Votes) (agree : VotesAgree n) (r : ℕ) (within : r < length n.jou
       differ w e = cc
 
       holds : (a : Prepared Batch) → PreparedHolds (votes_in (noted n.journals r (note_of at x)) at r) b a → VotesOf (with_note n r (note_at at (Some x))) (Replica r) (prepared at b a)
-      holds (Grant prior) h = h
-      holds (Refuse p) h = h
+      holds a h = grind arith
 
   accept_votes : (at : Place) (b : Ballot) (v : Batch) → Offered n at b v → (o : Option (Vote Batch)) (a : Taken) → IsAcceptanceVote (votes_here at) b v o → TakenHolds (after (votes_here at) o) b a → MayNote n r (note_at at o) × VotesOf (with_note n r (note_at at o)) (Replica r) (taken at b a)
   accept_votes at b v offered None Take k h = (tt, (h.0, agree.took at r b h.0 h.1, h.1))
@@ -219,8 +207,5 @@ module _ (n : Votes) (agree : VotesAgree n) (r : ℕ) (within : r < length n.jou
           offers = λ y m. offer_written (writes_note y.place) y.ballot y.value (agree.offers y m);
           took = λ at k b v h. ⊎_elim (λ o. agree.took at k b v o) (λ s. s) ((writes_note at).came k b v h);
           owned_offers = agree.owned_offers;
-          owned_notes = λ at k y h. ⊎_elim
-              (λ (e : votes_in (noted n.journals r x) at k ≡ votes_in n.journals at k). agree.owned_notes at k y (subst (λ (ys : List (Vote Batch)). Has ys y) e h))
-              (λ (e : k ≡ r). ⊎_elim (λ o. agree.owned_notes at r y o) (λ o. may.1 at y o) (has_split (votes_here at) (vote_at at x) y (subst (λ (ys : List (Vote Batch)). Has ys y) (votes_noted n.journals r x at within) (subst (λ (j : ℕ). Has (votes_in (noted n.journals r x) at j) y) e h))))
-              (votes_others n.journals r x at k);
+          owned_notes = λ at k y h. grind (arith, has_split, votes_noted, votes_others);
         }

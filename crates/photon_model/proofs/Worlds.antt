@@ -1,5 +1,5 @@
 -- Of worlds and their cells.
-use Rattle.std.proofs.Common.{◌≡◌, ◌⊎◌, inl, inr, ⊎_elim, sym, subst, ℕ, zero, suc, ◌<◌, ◌==◌, List, [], ◌∷◌, ◌++◌, Option, Some, None, refl, ap, arith}
+use Rattle.std.proofs.Common.{◌≡◌, ◌⊎◌, ⊎_elim, sym, subst, ℕ, zero, suc, ◌<◌, ◌==◌, List, [], ◌∷◌, ◌++◌, Option, Some, None, refl, ap, arith}
 use Rattle.std.proofs.lemmas.Bool.{cond-true, eq-eqb}
 use Rattle.photon_model.proofs.Words.{Out, Own, row, Note, land, at_node, Setting, Node, Input, World, Entry, after, world_after, IsRun, UpWith, set_at}
 
@@ -16,8 +16,7 @@ after_append g [] ys w = refl
 after_append g (x ∷ xs) ys w = after_append g xs ys (after g w x)
 
 pub up_is : {L : Type 0} (P : L → Type 0) (o : Option L) → UpWith P o → (l : L) × (o ≡ Some l) × P l
-up_is P None u = absurd u
-up_is P (Some l) u = (l, refl, u)
+up_is P o u = grind arith
 
 -- a part of what a family is set to
 pub set_own : {A B : Type 0} (part : A → B) (f : ℕ → A) (n : ℕ) (v : A) → part (set_at f n v n) ≡ part v
@@ -35,6 +34,4 @@ landed_either P f k note landed how here there = ⊎_elim (λ e. subst (λ q. P 
 
 -- the row of a node that is down, or up with its open turn's input
 pub row_by : {K L : Type 0} (start : K → Out L) (turn : K → L → Input → Out L) (k : K) (l : Option L) (o : Option Input) (P : Out L → Type 0) → P (start k) → ((x : L) → l ≡ Some x → (i : Input) → (o ≡ Some i) ⊎ (i ≡ Own) → P (turn k x i)) → P (row start turn k l o)
-row_by start turn k None o P down up = down
-row_by start turn k (Some x) None P down up = up x refl Own (inr refl)
-row_by start turn k (Some x) (Some i) P down up = up x refl i (inl refl)
+row_by start turn k l o P down up = grind arith

@@ -1,8 +1,8 @@
 -- What becomes of an attempt in a server's turn that takes an answer to it, or a Tick.
-use Rattle.std.proofs.Common.{◌≡◌, ◌⊎◌, inl, inr, ⊎_elim, ℕ, zero, suc, ◌+◌, ◌<◌, ◌≤◌, Bool, true, cond, ◌==◌, List, length, set, Some, None, refl, sym, ap, ◌∙◌, subst, arith}
+use Rattle.std.proofs.Common.{◌≡◌, ◌⊎◌, inl, inr, ⊎_elim, ℕ, zero, suc, ◌+◌, ◌<◌, ◌≤◌, Bool, true, cond, ◌==◌, List, length, Some, None, refl, sym, ap, ◌∙◌, subst, arith}
 use Rattle.std.specs.Prelude.{Option}
-use Rattle.std.proofs.lemmas.Bool.{cond_both, cond-true, eq-eqb, lt-ltb, and_from, cases_lt}
-use Rattle.photon_model.proofs.Words.{Ballot, Batch, Place, higher, value_for, Phase, is_new, is_most, nobody, with_promise, on_promise, with_acceptance, on_accepted, Promising, Accepting, Ended, Mem, set_at, option_both, none_some, some_same, mem_left, mem_right, Setting, shards, Out, idle, Packet, Prepare, Nack, Accept, Replica, To, Only, Own, Tick, Deliver, ServerKept, ServerLive, ShardState, Proposal, is_current, learns, promised, accepted, of_phase, again, all_again, gets_promise, gets_accepted, gets_nack, server_turn}
+use Rattle.std.proofs.lemmas.Bool.{cond-true, eq-eqb, lt-ltb, and_from}
+use Rattle.photon_model.proofs.Words.{Ballot, Batch, Place, Phase, on_promise, on_accepted, Promising, Accepting, Ended, Mem, set_at, none_some, some_same, mem_left, mem_right, Setting, shards, Out, idle, Packet, Nack, Replica, To, Only, Own, Tick, Deliver, ServerKept, ServerLive, ShardState, Proposal, is_current, promised, accepted, of_phase, again, all_again, gets_promise, gets_accepted, gets_nack, server_turn}
 use Rattle.progress_laws.specs.Moves.{next_of}
 use Rattle.progress_laws.proofs.Phases.{IsOpen, IsAnswer, HasMark, question, PhaseGoes, promises_no_more, marked_now, was_marked, same_self, promise_goes, promise_open, mem_to}
 use Rattle.progress_laws.proofs.Turning.{AsksAll, IsKept, promised_turns}
@@ -28,12 +28,7 @@ module _ (g : Setting) (site : ℕ) (k : ServerKept) (l : ServerLive) where
     after_promise r prior = promised g site k l (next_of n (l.shards n)) (l.shards n) p (on_promise p.own p.phase r prior)
 
     counted : (r : ℕ) (prior : Option (Ballot × Batch)) → r < g.replicas → (marks : List Bool) (best : Option (Ballot × Batch)) → IsOpen g.replicas (Promising marks best) → PhaseGoes (Promising marks best) (on_promise p.own (Promising marks best) r prior).0 → HasMark r (on_promise p.own (Promising marks best) r prior).0
-    counted r prior lt marks best o =
-        cond_both (is_new marks r) (with_promise p.own (set marks r true) (higher best prior)) (Promising marks best, None) (λ (t : Phase Batch × Option Batch). PhaseGoes (Promising marks best) t.0 → HasMark r t.0)
-        (λ _. cond_both (is_most (set marks r true)) (Accepting (value_for p.own (higher best prior)) (nobody (length (set marks r true))), Some (value_for p.own (higher best prior))) (Promising (set marks r true) (higher best prior), None) (λ (t : Phase Batch × Option Batch). PhaseGoes (Promising marks best) t.0 → HasMark r t.0)
-        (λ _ h. absurd (promises_no_more marks (nobody (length (set marks r true))) best (value_for p.own (higher best prior)) (next_of n (l.shards n)) p.ballot h))
-        (λ _ h. marked_now marks r (let e = o.0 in omega (arith, e, lt))))
-        (λ e h. was_marked marks r (let f = o.0 in omega (arith, f, lt)) e)
+    counted r prior lt marks best o = grind (arith, promises_no_more, marked_now, was_marked)
 
     promise_counts : (r : ℕ) (prior : Option (Ballot × Batch)) → r < g.replicas → (marks : List Bool) (best : Option (Ballot × Batch)) → p.phase ≡ Promising marks best → Counts r (after_promise r prior)
     promise_counts r prior lt marks best phase now q =
@@ -44,26 +39,14 @@ module _ (g : Setting) (site : ℕ) (k : ServerKept) (l : ServerLive) where
         now_is = ap (λ (y : Proposal). y.phase) (some_same _ now (sym (ap (λ (c : ShardState). c.proposal) (set_now (record (l.shards n) { proposal = Some (record { ballot = p.ballot; own = p.own; phase = (on_promise p.own p.phase r prior).0 }) }))) ∙ q))
 
         mark : IsKept g site k l n ((after_promise r prior).live.shards n) now → HasMark r now.phase
-        mark a =
-            let goes : PhaseGoes p.phase (on_promise p.own p.phase r prior).0 = subst (λ (y : Phase Batch). PhaseGoes p.phase y) (sym now_is) (subst (λ (y : Proposal). PhaseGoes y.phase now.phase) (sym (some_same p a.0 (sym stands ∙ a.1))) a.4) in
-            subst (HasMark r) now_is (subst (λ (y : Phase Batch). IsOpen g.replicas y → PhaseGoes y (on_promise p.own y r prior).0 → HasMark r (on_promise p.own y r prior).0) (sym phase) (counted r prior lt marks best) open_ goes)
+        mark a = grind (arith, counted)
 
     -- an acceptance ends the attempt, or is counted
     acceptance_counted : (r : ℕ) → r < g.replicas → (v : Batch) (marks : List Bool) → IsOpen g.replicas (Accepting v marks) → (on_accepted (Accepting v marks) r).1 ≡ None → HasMark r (on_accepted (Accepting v marks) r).0
-    acceptance_counted r lt v marks o =
-        cond_both (is_new marks r) (with_acceptance v (set marks r true)) (Accepting v marks, None) (λ (t : Phase Batch × Option Batch). t.1 ≡ None → HasMark r t.0)
-        (λ _. cond_both (is_most (set marks r true)) (Ended, Some v) (Accepting v (set marks r true), None) (λ (t : Phase Batch × Option Batch). t.1 ≡ None → HasMark r t.0)
-        (λ _ e. none_some v (sym e))
-        (λ _ e. marked_now marks r (let f = o.0 in omega (arith, f, lt))))
-        (λ e _. was_marked marks r (let f = o.0 in omega (arith, f, lt)) e)
+    acceptance_counted r lt v marks o = grind (arith, marked_now, was_marked)
 
     accepted_counts : (r : ℕ) → r < g.replicas → (v : Batch) (marks : List Bool) → p.phase ≡ Accepting v marks → Counts r (accepted g site k l (next_of n (l.shards n)) (l.shards n) p (on_accepted p.phase r).0 (on_accepted p.phase r).1)
-    accepted_counts r lt v marks phase =
-        option_both (on_accepted p.phase r).1 (accepted g site k l (next_of n (l.shards n)) (l.shards n) p (on_accepted p.phase r).0) (Counts r)
-        (λ u _ now q. none_some now (sym (ap (λ (c : ShardState). c.proposal) (set_now (learns g site (l.shards n) u))) ∙ q))
-        (λ e now q. inr (subst (HasMark r)
-        (ap (λ (y : Proposal). y.phase) (some_same _ now (sym (ap (λ (c : ShardState). c.proposal) (set_now (record (l.shards n) { proposal = Some (record { ballot = p.ballot; own = p.own; phase = (on_accepted p.phase r).0 }) }))) ∙ q)))
-        (subst (λ (y : Phase Batch). IsOpen g.replicas y → (on_accepted y r).1 ≡ None → HasMark r (on_accepted y r).0) (sym phase) (acceptance_counted r lt v marks) open_ e)))
+    accepted_counts r lt v marks phase = grind (arith, acceptance_counted)
 
     nack_counts : (r : ℕ) (c : Ballot) → Counts r (server_turn g site k l (Deliver (Replica r) (Nack (next_of n (l.shards n)) p.ballot c)))
     nack_counts r c =
@@ -87,17 +70,11 @@ module _ (g : Setting) (site : ℕ) (k : ServerKept) (l : ServerLive) where
 
     -- a Tick asks all again
     of_phase_asks : (at : Place) (b : Ballot) (y : Phase Batch) → IsOpen g.replicas y → (r : ℕ) → r < g.replicas → Mem (Only (Replica r), question at b y) (of_phase g site k l at b y)
-    of_phase_asks at b (Promising marks best) o r lt = mem_to r 0 g.replicas (Prepare at b) (omega arith) (omega arith)
-    of_phase_asks at b (Accepting v marks) o r lt = mem_to r 0 g.replicas (Accept at b v) (omega arith) (omega arith)
-    of_phase_asks at b Ended o r lt = absurd o
+    of_phase_asks at b y o r lt = grind (arith, mem_to)
 
     in_all : (a : To × Packet) (from m : ℕ) → from ≤ n → n < from + m → Mem a (again g site k l n (l.shards n) (l.shards n).proposal) → Mem a (all_again g site k l from m)
     in_all a from zero x y h = absurd (omega arith)
-    in_all a from (suc m) x y h =
-        ⊎_elim
-        (λ lt. mem_right a (again g site k l from (l.shards from) (l.shards from).proposal) (all_again g site k l (suc from) m) (in_all a (suc from) m lt (omega arith) h))
-        (λ ge. mem_left a (again g site k l from (l.shards from) (l.shards from).proposal) (all_again g site k l (suc from) m) (subst (λ t. Mem a (again g site k l t (l.shards t) (l.shards t).proposal)) (let e : n ≡ from = omega arith in e) h))
-        (cases_lt from n)
+    in_all a from (suc m) x y h = grind (arith, mem_right, mem_left, in_all a (suc from) m)
 
     pub tick_asks : (r : ℕ) → r < g.replicas → Mem (Only (Replica r), question (next_of n (l.shards n)) p.ballot p.phase) (server_turn g site k l Tick).packets
     tick_asks r lt = in_all _ 0 (shards g) (omega arith) (omega arith) (subst (λ o. Mem (Only (Replica r), question (next_of n (l.shards n)) p.ballot p.phase) (again g site k l n (l.shards n) o)) (sym stands) (of_phase_asks (next_of n (l.shards n)) p.ballot p.phase open_ r lt))

@@ -1,12 +1,12 @@
 -- In an interval in which nothing is done each join in flight goes on, so that at the end its server has something to do.
-use Rattle.std.proofs.Common.{◌≡◌, inl, inr, ⊎_elim, ℕ, ◌+◌, ◌*◌, ◌<◌, Bool, true, nat_lt, List, ◌∷◌, Some, refl, sym, ap, ◌∙◌, subst, lit<, []}
+use Rattle.std.proofs.Common.{◌≡◌, inl, inr, ⊎_elim, ℕ, ◌+◌, ◌*◌, ◌<◌, Bool, true, nat_lt, List, ◌∷◌, Some, refl, sym, ap, ◌∙◌, subst, lit<, [], arith}
 use Rattle.std.specs.Prelude.{Option, ◌⊎◌}
 use Rattle.std.proofs.lemmas.Bool.{cond_both, and_from, le-leb, lt-ltb, eq-eqb}
 use Rattle.time_shards.specs.Shards.{IsTable}
 use Rattle.photon_model.proofs.Worlds.{up_is}
 use Rattle.photon_model.proofs.Words.{Answer, Mem, some_same, Setting, IsJoiner, first_joiner, site_of_joiner, shard, Out, shard_below, Claim, Reply, Node, Server, Joiner, Only, Tick, Deliver, Sent, JoinerLive, Flight, insert_of, joiner_unfinished, ServerLive, is_own_joiner, World, Entry, server_row, joiner_row, after, world_after, JoinerWorks, if_up}
 use Rattle.progress_laws.specs.Idle.{IsIdle}
-use Rattle.progress_laws.proofs.Moments.{opened_at, IsEnd, Step, along_idle, Pending, none_pending, comes, SitesUp, turned, ended_own, lives, sites_up, by_row, by_turn, no_work, goes, row_sent_to}
+use Rattle.progress_laws.proofs.Moments.{opened_at, IsEnd, Step, along_idle, Pending, comes, SitesUp, turned, ended_own, lives, sites_up, by_row, by_turn, no_work, goes, row_sent_to}
 use Rattle.progress_laws.proofs.Waiting.{some_empty, IsLeftAt, Heard, insert_heard, waits_left, left_stays}
 use Rattle.progress_laws.proofs.Flying.{turn_both, Sends, tick_sends, reply_works}
 
@@ -114,7 +114,4 @@ asks g dead table w es i own s (j, l, f, is, site, up, m) = subst (IsLeftAt g v)
         }
 
     only : GoesOn g v [] [] j f → IsLeftAt g v (site_of_joiner g j)
-    only (inl (inl t)) = absurd (none_pending g dead v i.interval.ends (Joiner j) is refl Tick t)
-    only (inl (inr (from, u))) = absurd (none_pending g dead v i.interval.ends (Server (site_of_joiner g j)) (site_below g j) refl _ u)
-    only (inr (inl left)) = left
-    only (inr (inr (from, a, u))) = absurd (none_pending g dead v i.interval.ends (Joiner j) is refl _ u)
+    only h = grind arith

@@ -2,11 +2,11 @@
 use Rattle.std.proofs.Common.{◌≡◌, ◌⊎◌, inl, inr, ⊎_elim, ℕ, zero, suc, ◌+◌, ◌*◌, ◌<◌, ◌≤◌, Bool, true, false, not, ◌||◌, List, [], length, Some, None, refl, sym, ap, ◌∙◌, subst, arith}
 use Rattle.std.specs.Prelude.{Option}
 use Rattle.std.proofs.lemmas.Bool.{true≢false, cases_Bool, cases_lt, or_left, or_right}
-use Rattle.photon_model.proofs.Words.{Ballot, IsUpTo, Majority, upto_trans, not_above, Batch, Place, none_some, some_same, Setting, IsJoiner, first_joiner, shards, site_of_joiner, IsNode, Node, Dispatcher, Server, Replica, Joiner, Tick, Deliver, DispatcherLive, dispatcher_at_rest, JoinerLive, joiner_at_rest, ServerLive, ShardState, is_free, server_at_rest, AllFactsHold, World, Entry, Disks, world_after, opening, UpWith, IsAtRest, IsQuiet, Insert, each_at, known, IfUp, FlightHolds, JoinerHolds, DispatcherHolds, WorldHolds}
+use Rattle.photon_model.proofs.Words.{Ballot, IsUpTo, Majority, upto_trans, not_above, Batch, Place, none_some, some_same, Setting, IsJoiner, first_joiner, shards, site_of_joiner, IsNode, Node, Dispatcher, Server, Replica, Joiner, Tick, Deliver, DispatcherLive, dispatcher_at_rest, JoinerLive, joiner_at_rest, ServerLive, ShardState, is_free, server_at_rest, AllFactsHold, World, Entry, Disks, world_after, opening, UpWith, IsAtRest, IsQuiet, Insert, each_at, known, IfUp, FlightHolds, JoinerHolds, WorldHolds}
 use Rattle.time_shards.specs.Shards.{IsTable}
 use Rattle.progress_laws.specs.Idle.{IsIdle}
 use Rattle.progress_laws.specs.Moves.{is_left, next_of, promise_at, IsHeldAt, IsRefusedFrom, RestOrRefused, LeftIsRefused, HeldIsRefused}
-use Rattle.progress_laws.proofs.Moments.{opened_at, along_idle, Pending, quiet_closed, none_pending, comes, SitesUp}
+use Rattle.progress_laws.proofs.Moments.{opened_at, along_idle, Pending, quiet_closed, comes, SitesUp}
 use Rattle.progress_laws.proofs.Turning.{ballot_in, Same}
 use Rattle.progress_laws.proofs.Waiting.{IsLeftAt, still_left, server_waits}
 use Rattle.progress_laws.proofs.Lasting.{OfAllShards, HasCause, no_cause, cause_kept, after_run}
@@ -130,12 +130,7 @@ module _ (g : Setting) (dead : ℕ → Bool) (table : IsTable g.table) (most : M
             other q (inr (b, now_is, k, from_old)) = inr (λ b' e. let same : b'.round ≡ b.round = ap (λ (x : Ballot). x.round) (some_same b' b (sym e ∙ now_is)) in let low_ = upto_round b u (at_most b k) in omega (arith, same, low_, above, round_up))
 
         by_trying : IsTrying g dead w at site low v [] [] ends.most → IsRefusedFrom g dead w v at low
-        by_trying (inr (u, is, le)) = by_made u is le (ends.made u is)
-        by_trying (inl (m, now, here, none, le, waits)) =
-            absurd (⊎_elim
-            (λ t. none_pending g dead v i.interval.ends (Server site) lt refl Tick t)
-            (λ free. true≢false (sym (held_back site lt m now (left m now)) ∙ free))
-            waits)
+        by_trying h = grind (arith, by_made, ends, held_back)
 
   -- ---- what stays so in one shard
 
@@ -177,8 +172,7 @@ module _ (g : Setting) (dead : ℕ → Bool) (table : IsTable g.table) (most : M
   -- ---- a node is at rest, or something is left at its site's server
 
   tested : {L : Type 0} (P : L → Type 0) (test : L → Bool) (o : Option L) → UpWith P o → UpWith (λ l. test l ≡ true) o ⊎ UpWith (λ l. test l ≡ false) o
-  tested P test None u = absurd u
-  tested P test (Some l) u = cases_Bool (test l)
+  tested P test o u = grind arith
 
   joiner_rests : (j : ℕ) → j < first_joiner g + 2 * g.joiners → (IsJoiner g j → UpWith (λ (l : JoinerLive). joiner_at_rest l ≡ true) (w.joiners j).live) ⊎ SomeRefused
   joiner_rests j lt =
@@ -209,10 +203,7 @@ module _ (g : Setting) (w : World) (drawn : List Insert) (h : WorldHolds g w dra
   own_tokens j is l up f m = let live = subst (IfUp (JoinerHolds g (known g w drawn) j (w.joiners j).kept)) up (h.joiners j is).live in (each_at (FlightHolds g (known g w drawn) j (w.joiners j).kept.epoch l.number) l.flight live.flights f m).joiner
 
   lines : HasLines g w
-  lines s lt l up p t =
-      let f = h.dispatchers s lt in
-      let live = subst (IfUp (DispatcherHolds g (known g w drawn) (w.dispatchers s).kept)) up f.live in
-      f.kept.starts p (live.trying_pending p t)
+  lines s lt l up p t = grind arith
 
 module _ (g : Setting) (d : Disks) (es : List Entry) (facts : AllFactsHold g (world_after g (opening d) es)) where
   causes_after : OfAllShards (HasCause g) (world_after g (opening d) es)

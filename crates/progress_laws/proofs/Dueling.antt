@@ -1,10 +1,6 @@
 -- Each entry of an idle interval keeps what is known of the greatest attempt at a place.
 use Rattle.std.proofs.Common.{◌≡◌, ◌⊎◌, inl, inr, ⊎_elim, ℕ, suc, ◌<◌, ◌≤◌, Bool, false, List, ◌∷◌, length, Some, None, refl, sym, ap, ◌∙◌, subst, arith}
 use Rattle.std.specs.Prelude.{Option}
-use Rattle.std.proofs.lemmas.Cmp.{ranked}
-use Rattle.std.specs.Ordering.{nat_cmp, ordering_then, MatchOrdering}
-use Rattle.std.specs.declared.cmp.Ordering.{Ordering}
-use Rattle.std.specs.declared.cmp.Ordering.TheVariants.{Less, Equal, Greater}
 use Rattle.photon_model.proofs.Words.{Ballot, IsBelow, IsUpTo, not_above, Batch, Place, Each, none_some, some_same, Setting, IsNode, Sent, Out, land, Packet, Prepare, Accept, Nack, Node, Dispatcher, Server, Replica, Joiner, To, Input, Tick, Deliver, ServerLive, ReplicaKept, cell_at, land_replica, World, Entry, server_row, replica_row, after}
 use Rattle.photon_model.proofs.Agreeing.{IsPlain, dispatcher_row_plain, joiner_row_plain}
 use Rattle.progress_laws.specs.Moves.{next_of, promise_at}
@@ -17,21 +13,14 @@ use Rattle.progress_laws.proofs.Greatest.{UpTo, Promised, promised_more, promise
 
 -- the rounds of ballots in order
 pub below_round : (a b : Ballot) → IsBelow a b → a.round ≤ b.round
-below_round a b h = go (nat_cmp a.round b.round) (ranked a.round b.round (nat_cmp a.round b.round) refl) h.less
-  where
-    go : (o : Ordering) → MatchOrdering o (a.round < b.round) (a.round ≡ b.round) (b.round < a.round) → ordering_then o (ordering_then (nat_cmp a.epoch b.epoch) (nat_cmp a.site b.site)) ≡ Less → a.round ≤ b.round
-    go Less r e = omega (arith, r)
-    go Equal r e = omega (arith, r)
-    go Greater r e = absurd (cc)
+below_round a b h = grind arith
 
 pub upto_round : (a b : Ballot) → IsUpTo a b → a.round ≤ b.round
-upto_round a b (inl h) = below_round a b h
-upto_round a b (inr e) = let same : a.round ≡ b.round = ap (λ (x : Ballot). x.round) e in omega (arith, same)
+upto_round a b h = grind arith
 
 -- a number that an attempt's round is not below is no greater than the greatest attempt's
 pub raised : (m : Option Ballot) (b : Ballot) (low : ℕ) → UpTo m b → low ≤ b.round → (u : Ballot) × (m ≡ Some u) × (low ≤ u.round)
-raised None b low h le = absurd h
-raised (Some u) b low h le = let r = upto_round b u h in (u, refl, omega (arith, le, r))
+raised m b low h le = grind arith
 
 module _ (g : Setting) (dead : ℕ → Bool) (old : World) (at : Place) (site low : ℕ) where
   -- The server has a Tick or isn't held, with no attempt, and will draw no round below `low`; or an attempt has one.
@@ -189,5 +178,4 @@ module _ (g : Setting) (dead : ℕ → Bool) (old : World) (at : Place) (site lo
         }
       where
         promised_grows : (was now : Option Ballot) → Promised h.most was now → Promised new.0 was now
-        promised_grows was now (inl same) = inl same
-        promised_grows was now (inr (b, is, up, le)) = inr (b, is, new.1 b up, le)
+        promised_grows was now h = grind arith

@@ -1,5 +1,5 @@
 -- A joiner's turn: what is in flight after it was so before, or its insert is sent; and what ends a flight is work.
-use Rattle.std.proofs.Common.{◌≡◌, ◌⊎◌, inl, inr, ⊎_elim, ℕ, true, List, ◌∷◌, map, sym, ap, ◌∙◌, []}
+use Rattle.std.proofs.Common.{◌≡◌, ◌⊎◌, inl, inr, ⊎_elim, ℕ, true, List, ◌∷◌, map, sym, ap, ◌∙◌, [], arith}
 use Rattle.std.specs.Prelude.{find}
 use Rattle.std.proofs.lemmas.Bool.{true≢false, and_from}
 use Rattle.photon_model.proofs.Finding.{find_none}
@@ -11,8 +11,7 @@ is_own f = and_from _ _ (same_id-refl f.click.id) (same_token-refl f.token)
 
 mem_map : {A B : Type 0} (f : A → B) (xs : List A) (x : A) → Mem x xs → Mem (f x) (map f xs)
 mem_map f [] x m = absurd m
-mem_map f (y ∷ xs) x (inl e) = inl (ap f e)
-mem_map f (y ∷ xs) x (inr m) = inr (mem_map f xs x m)
+mem_map f (y ∷ xs) x h = grind (arith, mem_map f xs x)
 
 -- its insert is sent to the site's server
 abbrev pub Sends : Setting → ℕ → Flight → Out JoinerLive → Type 0
@@ -70,5 +69,4 @@ module _ (g : Setting) (j : ℕ) (k : JoinerKept) (l : JoinerLive) where
       gone = (f, m, λ q. true≢false (sym (is_own f) ∙ (landed_before l.flight (insert_of f) f q).1))
 
       ends : (y : Flight) (a : Answer) → JoinerWorks l (answers g j k l (insert_of f) y a).live
-      ends y Granted = gone
-      ends y _ = gone
+      ends y a = grind (arith, gone)

@@ -1,10 +1,9 @@
 -- The greatest attempt of an idle interval at a place: a replica refuses it by a promise that is older than the interval.
-use Rattle.std.proofs.Common.{◌≡◌, ◌⊎◌, inl, inr, ⊎_elim, ℕ, ◌<◌, ◌≤◌, Bool, true, false, ◌==◌, length, Some, None, refl, sym, ap, ◌∙◌, subst, lit<}
+use Rattle.std.proofs.Common.{◌≡◌, ◌⊎◌, inl, inr, ⊎_elim, ℕ, ◌<◌, ◌≤◌, Bool, true, false, ◌==◌, length, Some, None, refl, sym, ap, ◌∙◌, subst, lit<, arith}
 use Rattle.std.specs.Prelude.{Option}
 use Rattle.std.proofs.lemmas.Bool.{eqb-true, eq-eqb, true≢false}
 use Rattle.photon_model.proofs.Words.{Ballot, IsBelow, IsUpTo, compared, upto_trans, Place, none_some, some_same, Setting, Packet, Prepare, Accept, Nack, Node, ServerLive, ShardState, World, is_out}
 use Rattle.photon_model.proofs.Agreeing.{IsPlain}
-use Rattle.photon_model.proofs.Worlds.{of_two}
 use Rattle.progress_laws.proofs.Moments.{SitesUp}
 use Rattle.progress_laws.specs.Moves.{is_left, next_of, promise_at}
 use Rattle.progress_laws.proofs.Turning.{ballot_in, Stands, Asks}
@@ -24,8 +23,7 @@ abbrev pub Promised : Option Ballot → Option Ballot → Option Ballot → Type
 Promised m old now = (now ≡ old) ⊎ ((b : Ballot) × (now ≡ Some b) × UpTo m b × IsPromiseUpTo old b)
 
 promise_trans : (o : Option Ballot) (b c : Ballot) → IsPromiseUpTo o b → IsUpTo b c → IsPromiseUpTo o c
-promise_trans None b c h k = tt
-promise_trans (Some p) b c h k = upto_trans p b c h k
+promise_trans o b c h k = grind (arith, upto_trans)
 
 pub promised_more : (m : Option Ballot) (old : Option Ballot) (was now : Option Ballot) (b : Ballot) → Promised m old was → now ≡ Some b → UpTo m b → IsPromiseUpTo was b → Promised m old now
 promised_more m old was now b h e up le = inr (b, e, up, ⊎_elim (λ same. subst (λ o. IsPromiseUpTo o b) same le) (λ (x : (c : Ballot) × (was ≡ Some c) × UpTo m c × IsPromiseUpTo old c). promise_trans old x.0 b x.3 (subst (λ o. IsPromiseUpTo o b) x.1 le)) h)
@@ -47,23 +45,14 @@ module _ (g : Setting) (dead : ℕ → Bool) (old : World) (at : Place) where
   Fine m to _ = Unit {0}
 
   pub fine_grows : (m n : Option Ballot) → Grows m n → (to : Node) (p : Packet) → Fine m to p → Fine n to p
-  fine_grows m n more to (Prepare p b) f = λ e. let x = f e in (more b x.0, x.1)
-  fine_grows m n more to (Accept p b v) f = λ e. let x = f e in (more b x.0, x.1)
-  fine_grows m n more to (Nack p b c) f = λ e. let x = f e in (x.0, x.1, x.2, x.3, ⊎_elim (λ k. inl k) (λ k. inr (more c k)) x.4)
-  fine_grows m n more to _ f = tt
+  fine_grows m n more to p f = grind arith
 
   pub plain_fine : (m : Option Ballot) (to : Node) (p : Packet) → IsPlain p → Fine m to p
-  plain_fine m to (Prepare p b) h = absurd h
-  plain_fine m to (Accept p b v) h = absurd h
-  plain_fine m to (Nack p b c) h = absurd h
-  plain_fine m to _ h = tt
+  plain_fine m to p h = grind arith
 
   -- a server asks about attempts that stand
   pub asks_fine : (f : ℕ → ShardState) (m : Option Ballot) (to : Node) → is_out dead to ≡ false → ((b : Ballot) → Stands f at b → UpTo m b) → (p : Packet) → Asks f p → Fine m to p
-  asks_fine f m to live up (Prepare p b) a = λ e. (up b (subst (λ q. Stands f q b) e a), live)
-  asks_fine f m to live up (Accept p b v) a = λ e. (up b (subst (λ q. Stands f q b) e a), live)
-  asks_fine f m to live up (Nack p b c) a = absurd a
-  asks_fine f m to live up _ a = tt
+  asks_fine f m to live up p a = grind arith
 
   -- the ballot was refused by an old promise, which the server's round has reached
   abbrev pub IsRefusedBy : Ballot → ℕ → Type 0
@@ -122,7 +111,4 @@ module _ (g : Setting) (dead : ℕ → Bool) (old : World) (at : Place) where
       b = let u = up 1 (lit< tt) in with_one w a.0 1 u.0 (lit< tt) u.1 (causes 1 u.0 u.1) a.2
 
       each : (s : ℕ) → s < 2 → (l : ServerLive) → (w.servers s).live ≡ Some l → AttemptUpTo b.0 l
-      each =
-          of_two (λ s. (l : ServerLive) → (w.servers s).live ≡ Some l → AttemptUpTo b.0 l)
-          (λ l e. subst (AttemptUpTo b.0) (some_same _ l (sym (up 0 (lit< tt)).1 ∙ e)) (λ c h. b.1 c (a.3 c h)))
-          (λ l e. subst (AttemptUpTo b.0) (some_same _ l (sym (up 1 (lit< tt)).1 ∙ e)) b.3)
+      each = grind arith

@@ -1,7 +1,7 @@
 -- What each turn of a server keeps of its shards holds after every run.
-use Rattle.std.proofs.Common.{◌≡◌, inl, inr, ⊎_elim, ℕ, true, List, [], ◌∷◌, Some, sym, ap, ◌∙◌, subst}
+use Rattle.std.proofs.Common.{◌≡◌, inl, inr, ⊎_elim, ℕ, true, List, [], ◌∷◌, Some, sym, ap, ◌∙◌, subst, arith}
 use Rattle.std.specs.Prelude.{Option}
-use Rattle.photon_model.proofs.Words.{Ballot, set_at, at_set, none_some, Setting, Server, Input, ServerKept, ServerLive, ShardState, land_server, empty_shard, server_start, server_turn, IfUp, World, Entry, Begin, End, Stop, Disks, begun, stopped, server_row, server_ended, after, world_after, opening, Cell, Out}
+use Rattle.photon_model.proofs.Words.{Ballot, none_some, Setting, Input, ServerKept, ServerLive, ShardState, empty_shard, server_start, server_turn, IfUp, World, Entry, Disks, server_row, after, world_after, opening, Out}
 use Rattle.photon_model.proofs.Worlds.{row_by}
 use Rattle.progress_laws.specs.Moves.{is_left}
 use Rattle.progress_laws.proofs.Turning.{ballot_in, Fate, Turns, turns}
@@ -19,14 +19,8 @@ module _ (g : Setting) (P : ShardState → Type 0) (empty : P empty_shard) (keep
   row_has : (w : World) (s : ℕ) → OfAllShards P w → (n : ℕ) → P ((server_row g s (w.servers s)).live.shards n)
   row_has w s h = row_by server_start (server_turn g s) (w.servers s).kept (w.servers s).live (w.servers s).opened (λ (o : Out ServerLive). (n : ℕ) → P (o.live.shards n)) (λ n. empty) (λ l up i _. keeps s (w.servers s).kept l (subst (OfShards P) up (h s)) i)
 
-  changed : (w : World) (m : ℕ) (c : Cell ServerKept ServerLive) → OfShards P c.live → OfAllShards P w → OfAllShards P (record w { servers = set_at w.servers m c })
-  changed w m c now h = at_set (λ s (c : Cell ServerKept ServerLive). OfShards P c.live) w.servers m c now h
-
   pub lasts : (w : World) (e : Entry) → OfAllShards P w → OfAllShards P (after g w e)
-  lasts w (Begin (Server m) i) h = changed w m (begun (w.servers m) i) (h m) h
-  lasts w (End (Server m) o ps kept) h = changed w m (server_ended g m (w.servers m) o) (row_has w m h) h
-  lasts w (Stop (Server m) landed) h = changed w m (stopped land_server (w.servers m) landed) tt h
-  lasts w _ h = h
+  lasts w e h = grind (arith, row_has)
 
   pub after_run : (d : Disks) (es : List Entry) → OfAllShards P (world_after g (opening d) es)
   after_run d es = go es (opening d) (λ s. tt)

@@ -3,11 +3,10 @@ use Rattle.std.proofs.Common.{◌≡◌, ◌⊎◌, inl, inr, ⊎_elim, ℕ, ◌
 use Rattle.std.specs.Prelude.{Option, filter, not}
 use Rattle.std.proofs.lemmas.Bool.{cond_both, cond-true, not-true}
 use Rattle.std.proofs.lemmas.List.Sums.{length-filter}
-use Rattle.photon_model.proofs.Words.{Mem, Each, each_at, clash, mem_left, mem_right, mem_split, none_some, some_same, Setting, IsNode, IsTo, Packet, Node, Dispatcher, Server, Replica, Joiner, To, Only, Input, Start, Own, Tick, Deliver, Sent, Note, Out, land, ServerLive, World, Entry, Begin, End, Stop, begun, ended, row, sends, after, world_after, May, IsTurn, IsRun, same_node, put_in, is_tick_of, ticks_due, is_unfinished, is_out, to_live, IsQuiet, IsInterval, Carries, BothUp, DispatcherWorks, JoinerWorks, ServerWorks, IsWork, Cell, KeptOf, LiveOf, at_node, land_at, start_at, turn_at, row_of}
+use Rattle.photon_model.proofs.Words.{Mem, Each, each_at, mem_left, mem_right, mem_split, none_some, some_same, Setting, IsNode, IsTo, Packet, Node, Dispatcher, Server, Replica, Joiner, To, Only, Input, Start, Own, Tick, Deliver, Sent, Note, Out, land, ServerLive, World, Entry, Begin, End, Stop, begun, ended, row, sends, after, world_after, May, IsTurn, IsRun, same_node, put_in, is_tick_of, ticks_due, is_unfinished, is_out, to_live, IsQuiet, IsInterval, Carries, BothUp, DispatcherWorks, JoinerWorks, ServerWorks, IsWork, Cell, KeptOf, LiveOf, at_node, land_at, start_at, turn_at, row_of}
 pub use Rattle.photon_model.proofs.Worlds.{opened_at}
 use Rattle.photon_model.proofs.Finding.{addressed, sent_addressed}
-use Rattle.photon_model.proofs.Local.{same_node-true, same_node-self, own_one}
-use Rattle.photon_model.specs.Local.{own_entry}
+use Rattle.photon_model.proofs.Local.{same_node-self, own_one}
 use Rattle.progress_laws.specs.Idle.{HasNumbers, IsWithinLimits, NoWork, IsIdle}
 
 -- ---- a node, of whatever kind
@@ -72,10 +71,7 @@ pub along_idle : (g : Setting) (dead : ℕ → Bool) (P : World → List Sent �
 along_idle g dead P step es w i p = go es w [] i.run i.interval.carries i.limits i.no_work p
   where
     one : (air : List Sent) (e : Entry) (es : List Entry) → Carries dead air (e ∷ es) → (next : List Sent) × CarriesOne dead air e next × Carries dead next es
-    one air (Begin n (Deliver from p)) es c = c
-    one air (Begin n _) es c = (air, refl, c)
-    one air (End n _ ps kept) es c = (filter (to_live dead) (sends n ps) ++ air, refl, c)
-    one air (Stop n landed) es c = absurd c
+    one air e es c = grind arith
 
     go : (es : List Entry) (w : World) (air : List Sent) → IsRun g w es → Carries dead air es → IsWithinLimits g w es → NoWork g w es → P w air es → P (world_after g w es) [] []
     go [] w air r c l n p = subst (λ a. P w a []) c p
@@ -101,17 +97,11 @@ IsSent dead e x = (n : Node) × (o : Option Note) × (ps : List (Node × Packet)
 module _ (dead : ℕ → Bool) (x : Sent) where
   passing : (xs : List Sent) → Mem x xs → to_live dead x ≡ true → Mem x (filter (to_live dead) xs)
   passing [] m t = absurd m
-  passing (y ∷ xs) m t =
-      cond_both (to_live dead y) (y ∷ filter (to_live dead) xs) (filter (to_live dead) xs) (Mem x)
-      (λ e. ⊎_elim (λ s. inl s) (λ k. inr (passing xs k t)) m)
-      (λ e. ⊎_elim (λ s. clash (to_live dead x) t (ap (to_live dead) (sym s) ∙ e)) (λ k. passing xs k t) m)
+  passing (y ∷ xs) m t = grind (arith, passing xs)
 
   passed : (xs : List Sent) → Mem x (filter (to_live dead) xs) → Mem x xs × (to_live dead x ≡ true)
   passed [] m = absurd m
-  passed (y ∷ xs) m =
-      cond_both (to_live dead y) (y ∷ filter (to_live dead) xs) (filter (to_live dead) xs) (λ zs. Mem x zs → Mem x (y ∷ xs) × (to_live dead x ≡ true))
-      (λ e. ⊎_elim (λ s. (inl s, ap (to_live dead) (sym s) ∙ e)) (λ k. let h = passed xs k in (inr h.0, h.1)))
-      (λ e k. let h = passed xs k in (inr h.0, h.1)) m
+  passed (y ∷ xs) m = grind (arith, passed xs)
 
   -- an element of a list stays, but for the one taken out
   put_out : (y : Sent) (xs ys : List Sent) → put_in y xs ys → Mem x ys → (y ≡ x) ⊎ Mem x xs
@@ -145,20 +135,12 @@ quiet_closed g dead w q (Server s) is live = (q.servers s is).0
 quiet_closed g dead w q (Replica r) is live = (q.replicas r is live).0
 quiet_closed g dead w q (Joiner j) is live = (q.joiners j is).0
 
-pub none_pending : (g : Setting) (dead : ℕ → Bool) (w : World) → IsQuiet g dead w → (n : Node) → IsNode g n → is_out dead n ≡ false → (i : Input) → Pending w [] [] n i → ⊥
-none_pending g dead w q n is live i (inr o) = none_some i (sym (quiet_closed g dead w q n is live) ∙ o)
-none_pending g dead w q n is live (Deliver from p) (inl m) = m
-none_pending g dead w q n is live Tick (inl m) = m
-none_pending g dead w q n is live Start (inl m) = m
-none_pending g dead w q n is live Own (inl m) = m
-
 -- a node that is unfinished where an interval begins has a Tick
 pub comes : (g : Setting) (dead : ℕ → Bool) (w : World) (es : List Entry) → IsInterval g dead w es → (n : Node) → IsNode g n → is_unfinished g w n ≡ true → Pending w [] es n Tick
 comes g dead w es i n is u = let one : length (filter (is_tick_of n) es) ≡ 1 = length-filter (is_tick_of n) es ∙ i.ticks n is ∙ ap ticks_due u in inl (some_tick es (omega (arith, one)))
   where
     is_tick : (e : Entry) → is_tick_of n e ≡ true → e ≡ Begin n Tick
-    is_tick (Begin m Tick) t = ap (λ k. Begin k Tick) (sym (same_node-true n m t))
-    is_tick _ t = clash false t refl
+    is_tick e t = grind arith
 
     some_tick : (es : List Entry) → 0 < length (filter (is_tick_of n) es) → Mem (Begin n Tick) es
     some_tick [] h = absurd (omega arith)
@@ -172,12 +154,7 @@ SitesUp w = (s : ℕ) → s < 2 → (l : ServerLive) × ((w.servers s).live ≡ 
 module _ {g : Setting} {dead : ℕ → Bool} {w : World} {air next : List Sent} {e : Entry} {es : List Entry} (step : Step g dead w air next e es) where
   -- nothing, or its turn begins or ends
   cell_after : (n : Node) (P : Cell (KeptOf n) (LiveOf n) → Type 0) → P (at_node w n) → ((i : Input) → e ≡ Begin n i → P (begun (at_node w n) i)) → ((o : Option Note) (ps : List (Node × Packet)) (kept : ℕ) → e ≡ End n o ps kept → P (ended (land_at n) (at_node w n) o (row_at g w n).live)) → P (at_node (after g w e) n)
-  cell_after n P same begins ends = subst P (sym (own_one g w n e)) (go e step.carries begins ends)
-    where
-      go : (e : Entry) → CarriesOne dead air e next → ((i : Input) → e ≡ Begin n i → P (begun (at_node w n) i)) → ((o : Option Note) (ps : List (Node × Packet)) (kept : ℕ) → e ≡ End n o ps kept → P (ended (land_at n) (at_node w n) o (row_at g w n).live)) → P (own_entry g n (at_node w n) e)
-      go (Begin m i) c begins ends = cond_both (same_node n m) _ _ P (λ t. begins i (ap (λ k. Begin k i) (sym (same_node-true n m t)))) (λ _. same)
-      go (End m o ps kept) c begins ends = cond_both (same_node n m) _ _ P (λ t. ends o ps kept (ap (λ k. End k o ps kept) (sym (same_node-true n m t)))) (λ _. same)
-      go (Stop m landed) c begins ends = absurd c
+  cell_after n P same begins ends = grind (arith, own_one)
 
   -- a node knows what it knew, or what its row says
   pub lives : {X : Type 0} (n : Node) → ((at_node (after g w e) n).live ≡ (at_node w n).live → X) → (IsEnd e n → (at_node (after g w e) n).live ≡ Some (row_at g w n).live → X) → X
@@ -201,11 +178,7 @@ module _ {g : Setting} {dead : ℕ → Bool} {w : World} {air next : List Sent} 
 
   -- a row's cases, where its turn ends
   pub by_row : (n : Node) → IsEnd e n → (P : Out (LiveOf n) → Type 0) → ((at_node w n).live ≡ None → P (start_at n (at_node w n).kept)) → ((l : LiveOf n) → (at_node w n).live ≡ Some l → (i : Input) → opened_at w n ≡ Some i → P (turn_at g n (at_node w n).kept l i)) → P (row_at g w n)
-  by_row n end P starts turns = go (at_node w n).live starts turns
-    where
-      go : (o : Option (LiveOf n)) → (o ≡ None → P (start_at n (at_node w n).kept)) → ((l : LiveOf n) → o ≡ Some l → (i : Input) → opened_at w n ≡ Some i → P (turn_at g n (at_node w n).kept l i)) → P (row (start_at n) (turn_at g n) (at_node w n).kept o (at_node w n).opened)
-      go None starts turns = starts refl
-      go (Some l) starts turns = let i = (ends n end).1.0 in subst (λ x. P (row (start_at n) (turn_at g n) (at_node w n).kept (Some l) x)) (sym i.1) (turns l refl i.0 i.1)
+  by_row n end P starts turns = grind arith
 
   pub by_turn : (n : Node) (l : LiveOf n) → (at_node w n).live ≡ Some l → IsEnd e n → (P : Out (LiveOf n) → Type 0) → ((i : Input) → opened_at w n ≡ Some i → P (turn_at g n (at_node w n).kept l i)) → P (row_at g w n)
   by_turn n l up end P each = let i = (ends n end).1.0 in subst P (sym (turned g w n l i.0 up i.1)) (each i.0 i.1)
@@ -222,11 +195,7 @@ module _ {g : Setting} {dead : ℕ → Bool} {w : World} {air next : List Sent} 
   begins n i q = ap (λ x. opened_at (after g w x) n) q ∙ ap (λ (c : Cell (KeptOf n) (LiveOf n)). c.opened) (begun_own g w n i)
 
   goes_on : (n : Node) (i : Input) → Pending w air (e ∷ es) n i → Pending (after g w e) next es n i ⊎ (IsEnd e n × (opened_at w n ≡ Some i))
-  goes_on n i (inr o) = ⊎_elim (λ k. inl (inr k)) (λ k. inr k) (stays_open n i o)
-  goes_on n (Deliver from p) (inl m) = ⊎_elim (λ k. inl (inl k)) (λ q. inl (inr (begins n (Deliver from p) q))) (air_stays dead (record { from = from; to = n; packet = p }) air next e step.carries m)
-  goes_on n Tick (inl (inl q)) = inl (inr (begins n Tick q))
-  goes_on n Tick (inl (inr m)) = inl (inl m)
-  goes_on n _ (inl m) = absurd m
+  goes_on n i h = grind (arith, stays_open, begins, air_stays)
 
   -- what a node is to take it is still, or the entry ends the turn that took it
   pub goes : {X : Type 0} (n : Node) (i : Input) → Pending w air (e ∷ es) n i → (Pending (after g w e) next es n i → X) → (IsEnd e n → opened_at w n ≡ Some i → X) → X
@@ -251,9 +220,7 @@ module _ {g : Setting} {dead : ℕ → Bool} {w : World} {air next : List Sent} 
 
   -- to one node
   pub row_sent_to : (n : Node) → IsEnd e n → (to : Node) (p : Packet) → Mem (Only to, p) (row_at g w n).packets → is_out dead to ≡ false → Pending (after g w e) next es to (Deliver n p)
-  row_sent_to n end to p m live =
-      let s = row_sent n end (Only to, p) m in
-      subst (λ (x : Node). Pending (after g w e) next es x (Deliver n p)) (sym s.1) (s.2 (subst (λ (x : Node). is_out dead x ≡ false) s.1 live))
+  row_sent_to n end to p m live = grind (arith, row_sent)
 
   pub each_of_row : (P : Packet → Type 0) (n : Node) (end : IsEnd e n) → Each (λ (a : To × Packet). P a.1) (row_at g w n).packets → (x : Sent) → Mem x (sends n end.1) → P x.packet
   each_of_row P n end each x m = let a = sent_addressed g n (row_at g w n).packets end.1 (ends n end).1.2 x m in subst P a.2 (each_at (λ (b : To × Packet). P b.1) (row_at g w n).packets each a.0 a.1)

@@ -1,7 +1,7 @@
 -- Each refusal leaves fewer promises from a round on, so only so many idle intervals follow one another.
 use Rattle.std.proofs.Common.{◌≡◌, ⊎_elim, ℕ, zero, suc, ◌+◌, ◌<◌, ◌≤◌, Bool, true, false, cond, nat_le, List, [], ◌∷◌, ◌++◌, length, Some, None, refl, sym, ap, ◌∙◌, subst, arith}
 use Rattle.std.specs.Prelude.{Option, if◌then◌else◌}
-use Rattle.std.proofs.lemmas.Bool.{cond_both, cond-true, cond-false, true≢false, cases_lt, le-leb, leb-true, lt-leb}
+use Rattle.std.proofs.lemmas.Bool.{cond_both, cond-true, cond-false, le-leb, lt-leb}
 use Rattle.photon_model.proofs.Worlds.{run_append, after_append}
 use Rattle.photon_model.proofs.Words.{Ballot, Majority, Place, Setting, World, Entry, Disks, world_after, IsRun, opening}
 use Rattle.time_shards.specs.Shards.{IsTable}
@@ -27,31 +27,15 @@ sums_le f g (suc k) h = let a = h k (omega arith) in let b = sums_le f g k (λ r
 
 sums_lt : (f g : ℕ → ℕ) (k r : ℕ) → r < k → f r < g r → ((q : ℕ) → q < k → f q ≤ g q) → sum_to f k < sum_to g k
 sums_lt f g zero r lt less h = absurd (omega (arith, lt))
-sums_lt f g (suc k) r lt less h =
-    ⊎_elim
-    (λ below. let a = h k (omega arith) in let b = sums_lt f g k r below less (λ q lt. h q (omega (arith, lt))) in omega (arith, a, b))
-    (λ ge. let same : r ≡ k = omega (arith, lt, ge) in let a = subst (λ q. f q < g q) same less in let b = sums_le f g k (λ q lt. h q (omega (arith, lt))) in omega (arith, a, b))
-    (cases_lt r k)
+sums_lt f g (suc k) r lt less h = grind (arith, sums_le, sums_lt f g k r)
 
 bits : (d a b : Bool) → (d ≡ false → a ≡ true → b ≡ true) → cond d 0 (cond a 1 0) ≤ cond d 0 (cond b 1 0)
-bits true a b f = omega arith
-bits false false b f = omega arith
-bits false true true f = omega arith
-bits false true false f = absurd (true≢false (sym (f refl refl)))
+bits d a b f = grind arith
 
 module _ (g : Setting) (dead : ℕ → Bool) (w v : World) (at : Place) (n m : ℕ) (h : Refusal g dead w v at n m) where
   -- who counts at the end counted before
   counted : (r : ℕ) → r < g.replicas → dead r ≡ false → is_from m (promise_at v r at) ≡ true → is_from n (promise_at w r at) ≡ true
-  counted r lt live e = go (promise_at v r at) refl e
-    where
-      go : (o : Option Ballot) → promise_at v r at ≡ o → is_from m o ≡ true → is_from n (promise_at w r at) ≡ true
-      go None q t = absurd (true≢false (sym t))
-      go (Some b) q t =
-          let over : m ≤ b.round = leb-true m b.round t in
-          ⊎_elim
-          (λ same. ap (is_from n) (sym same ∙ q) ∙ le-leb n b.round (let a = h.higher in let c = h.reached in omega (arith, over, a, c)))
-          (λ low. absurd (let l = low b q in omega (arith, over, l)))
-          (h.others r lt live)
+  counted r lt live e = grind arith
 
   -- the refuser counted, and doesn't any more
   counts_down : sum_to (one_from dead v at m) g.replicas < sum_to (one_from dead w at n) g.replicas

@@ -1,10 +1,9 @@
 -- The phases of an attempt: what is asked and answered, who is counted, and what a promise or an acceptance makes of it.
-use Rattle.std.proofs.Common.{◌≡◌, ◌⊎◌, inl, inr, ⊎_elim, ℕ, zero, suc, ◌+◌, ◌*◌, ◌<◌, ◌≤◌, Bool, true, false, List, ◌∷◌, length, set, replicate, Some, None, refl, sym, ap, ◌∙◌, arith, []}
+use Rattle.std.proofs.Common.{◌≡◌, ◌⊎◌, inl, inr, ⊎_elim, ℕ, zero, suc, ◌+◌, ◌*◌, ◌<◌, ◌≤◌, Bool, true, false, List, ◌∷◌, length, set, replicate, Some, None, refl, ap, arith, []}
 use Rattle.std.specs.Prelude.{Option, slice_get, ⊤}
 use Rattle.std.proofs.lemmas.Bool.{cases_lt, cases_Bool, le-ltb, not-false}
 use Rattle.std.proofs.lemmas.List.{length-set, length-replicate}
-use Rattle.photon_model.proofs.ServerRows.{promise_cases, accept_cases}
-use Rattle.photon_model.proofs.Words.{Ballot, marked, is_same, same_false, Batch, Place, higher, value_for, Phase, is_new, is_most, nobody, on_promise, on_accepted, Promising, Accepting, Ended, Mem, none_some, Setting, Packet, Prepare, Promise, Nack, Accept, Accepted, Replica, Only, ServerLive, Proposal, to_from, IfUp, World}
+use Rattle.photon_model.proofs.Words.{Ballot, marked, is_same, same_false, Batch, Place, Phase, is_new, is_most, nobody, on_promise, on_accepted, Promising, Accepting, Ended, Mem, Setting, Packet, Prepare, Promise, Nack, Accept, Accepted, Replica, Only, ServerLive, Proposal, to_from, IfUp, World}
 
 -- the phase counts each of so many replicas, and no majority of them yet
 abbrev pub IsOpen : ℕ → Phase Batch → Type 0
@@ -84,25 +83,17 @@ promises_no_more marks now best v at b h = differ (h.asks at b)
 
 -- a promise: the phase goes on, or the value is sent
 pub promise_goes : (own : Batch) (p : Phase Batch) (r : ℕ) (prior : Option (Ballot × Batch)) → (((on_promise own p r prior).1 ≡ None) × PhaseGoes p (on_promise own p r prior).0) ⊎ ((v : Batch) × (marks : List Bool) × ((on_promise own p r prior).1 ≡ Some v) × ((on_promise own p r prior).0 ≡ Accepting v marks))
-promise_goes own p r prior =
-    promise_cases own r prior (λ y t. ((t.1 ≡ None) × PhaseGoes y t.0) ⊎ ((v : Batch) × (now : List Bool) × (t.1 ≡ Some v) × (t.0 ≡ Accepting v now))) (λ y. inl (refl, phase_same y))
-    (λ marks best most. inr (value_for own (higher best prior), nobody (length (set marks r true)), refl, refl))
-    (λ marks best few. inl (refl, record { asks = λ at b. refl; hears = λ at b q a. a; marks = λ k h. marks_stay marks r k h })) p
+promise_goes own p r prior = grind (arith, marks_stay)
 
 pub accepted_goes : (p : Phase Batch) (r : ℕ) → (on_accepted p r).1 ≡ None → PhaseGoes p (on_accepted p r).0
-accepted_goes p r =
-    accept_cases r (λ y t. t.1 ≡ None → PhaseGoes y t.0) (λ y e. phase_same y) (λ v marks most e. none_some v (sym e)) (λ v marks few e. record { asks = λ at b. refl; hears = λ at b q a. a; marks = λ k h. marks_stay marks r k h }) p
+accepted_goes p r = grind (arith, marks_stay)
 
 -- an open phase stays open, until it ends
 pub promise_open : (n : ℕ) (own : Batch) (p : Phase Batch) (r : ℕ) (prior : Option (Ballot × Batch)) → IsOpen n p → IsOpen n (on_promise own p r prior).0
-promise_open n own p r prior =
-    promise_cases own r prior (λ y t. IsOpen n y → IsOpen n t.0) (λ y o. o)
-    (λ marks best most o. (length-replicate (length (set marks r true)) false ∙ length-set marks r true ∙ o.0, nobody_open (length (set marks r true))))
-    (λ marks best few o. (length-set marks r true ∙ o.0, few)) p
+promise_open n own p r prior = grind (arith, length-replicate, length-set, nobody_open)
 
 pub accepted_open : (n : ℕ) (p : Phase Batch) (r : ℕ) → IsOpen n p → (on_accepted p r).1 ≡ None → IsOpen n (on_accepted p r).0
-accepted_open n p r =
-    accept_cases r (λ y t. IsOpen n y → t.1 ≡ None → IsOpen n t.0) (λ y o e. o) (λ v marks most o e. none_some v (sym e)) (λ v marks few o e. (length-set marks r true ∙ o.0, few)) p
+accepted_open n p r = grind (arith, length-set)
 
 pub mem_to : (r from n : ℕ) (p : Packet) → from ≤ r → r < from + n → Mem (Only (Replica r), p) (to_from from n p)
 mem_to r from zero p a b = absurd (omega arith)

@@ -1,12 +1,12 @@
 -- Where more than half of the replicas take part, each attempt ends in an interval in which nothing is done.
-use Rattle.std.proofs.Common.{◌≡◌, ◌⊎◌, inl, inr, ⊎_elim, ℕ, suc, ◌*◌, ◌<◌, ◌≤◌, Bool, true, false, ◌||◌, nat_lt, List, ◌∷◌, length, Some, None, refl, sym, ap, ◌∙◌, subst, arith, []}
+use Rattle.std.proofs.Common.{◌≡◌, ◌⊎◌, inl, inr, ⊎_elim, ℕ, suc, ◌<◌, ◌≤◌, Bool, true, false, ◌||◌, nat_lt, List, ◌∷◌, length, Some, None, refl, sym, ap, ◌∙◌, subst, arith, []}
 use Rattle.std.specs.Prelude.{Option, not, is_some, slice_get}
-use Rattle.std.proofs.lemmas.Bool.{true≢false, lt-ltb, or_left}
-use Rattle.photon_model.proofs.Words.{Ballot, marked, Majority, Batch, same_batch, bound_of, Place, Prepared, Taken, on_prepare, on_accept, Grant, Refuse, Take, Decline, Phase, is_most, Promising, Accepting, Ended, Mem, some_same, Setting, shards, Out, is_empty, Packet, Node, Server, Replica, Only, Input, Tick, Deliver, Sent, ServerKept, ServerLive, Proposal, first_shard, is_free, shard_unfinished, server_unfinished, server_turn, ReplicaKept, cell_at, prepared, taken, replica_turn, IfUp, World, Entry, Disks, server_row, after, world_after, opening, if_up, is_unfinished}
+use Rattle.std.proofs.lemmas.Bool.{true≢false, or_left}
+use Rattle.photon_model.proofs.Words.{Ballot, marked, Majority, Batch, same_batch, bound_of, Place, Prepared, Taken, on_prepare, on_accept, Grant, Refuse, Phase, Promising, Accepting, Ended, Mem, some_same, Setting, shards, Out, is_empty, Packet, Node, Server, Replica, Only, Input, Tick, Deliver, Sent, ServerKept, ServerLive, Proposal, first_shard, is_free, shard_unfinished, server_unfinished, server_turn, ReplicaKept, cell_at, prepared, taken, replica_turn, IfUp, World, Entry, Disks, server_row, after, world_after, opening, if_up, is_unfinished}
 use Rattle.photon_model.proofs.Finding.{first_none}
 use Rattle.progress_laws.specs.Idle.{IsIdle}
 use Rattle.progress_laws.specs.Moves.{next_of}
-use Rattle.progress_laws.proofs.Moments.{opened_at, IsEnd, Step, along_idle, Pending, none_pending, comes, SitesUp, turned, ended_own, lives, up_after, sites_up, by_turn, goes, row_sent_to}
+use Rattle.progress_laws.proofs.Moments.{opened_at, IsEnd, Step, along_idle, Pending, comes, SitesUp, turned, ended_own, lives, up_after, sites_up, by_turn, goes, row_sent_to}
 use Rattle.std.proofs.lemmas.Option.{slice_get_within}
 use Rattle.progress_laws.proofs.Phases.{IsOpen, IfOpen, AreOpen, question, IsAnswer, HasMark}
 use Rattle.progress_laws.proofs.Asking.{Counts, answer_counts, tick_asks}
@@ -55,8 +55,7 @@ prepare_answers at b marks best (Grant prior) = inl (prior, refl)
 prepare_answers at b marks best (Refuse c) = inr (c, refl)
 
 accept_answers : (at : Place) (b : Ballot) (v : Batch) (marks : List Bool) (t : Taken) → IsAnswer at b (Accepting v marks) (taken at b t)
-accept_answers at b v marks Take = inl refl
-accept_answers at b v marks (Decline c) = inr (c, refl)
+accept_answers at b v marks t = grind arith
 
 replica_answers : (n : ℕ) (k : ReplicaKept) (from : Node) (at : Place) (b : Ballot) (y : Phase Batch) → IsOpen n y → (q : Packet) × IsAnswer at b y q × Mem (Only from, q) (replica_turn k (Deliver from (question at b y))).packets
 replica_answers n k from at b (Promising marks best) o = (prepared at b (on_prepare (cell_at k at) b).1, prepare_answers at b marks best (on_prepare (cell_at k at) b).1, inl refl)
@@ -158,10 +157,7 @@ more_marked (x ∷ xs) [] e h = absurd (omega (arith, e))
 more_marked (x ∷ xs) (y ∷ ys) e h = go x y (h 0) (more_marked xs ys (omega (arith, e)) (λ r q. h (suc r) q))
   where
     go : (x y : Bool) → (Some x ≡ Some true → Some y ≡ Some true) → marked xs ≤ marked ys → marked (x ∷ xs) ≤ marked (y ∷ ys)
-    go true true f le = omega (arith, le)
-    go true false f le = absurd (true≢false (sym (some_same false true (f refl))))
-    go false true f le = omega (arith, le)
-    go false false f le = le
+    go x y f le = grind arith
 
 module _ (g : Setting) (dead : ℕ → Bool) (w : World) (es : List Entry) (most : Majority g.replicas (λ r. dead r ≡ false)) (i : IsIdle g dead w es) where
   unfinished : (s : ℕ) (l : ServerLive) → (w.servers s).live ≡ Some l → (k : ℕ) → k < shards g → (p : Proposal) → (l.shards k).proposal ≡ Some p → is_unfinished g w (Server s) ≡ true
@@ -184,19 +180,7 @@ module _ (g : Setting) (dead : ℕ → Bool) (w : World) (es : List Entry) (most
 
   -- at the quiet end each replica that takes part is counted, so a majority is
   no_majority : (p : Proposal) → IsOpen g.replicas p.phase → ((r : ℕ) → r < g.replicas → dead r ≡ false → HasMark r p.phase) → ⊥
-  no_majority p = go p.phase
-    where
-      too_many : (marks : List Bool) → (length marks ≡ g.replicas) → is_most marks ≡ false → ((r : ℕ) → r < g.replicas → dead r ≡ false → slice_get marks r ≡ Some true) → ⊥
-      too_many marks n few h =
-          let members = most.members in
-          let more = most.more in
-          let le = more_marked most.marks marks (members ∙ sym n) (λ r q. h r (let lt = slice_get_within most.marks r true q in omega (arith, lt, members)) (most.each r q)) in
-          true≢false (sym (lt-ltb (length marks) (2 * marked marks) (omega (arith, n, more, le))) ∙ few)
-
-      go : (y : Phase Batch) → IsOpen g.replicas y → ((r : ℕ) → r < g.replicas → dead r ≡ false → HasMark r y) → ⊥
-      go (Promising marks best) o h = too_many marks o.0 o.1 h
-      go (Accepting u marks) o h = too_many marks o.0 o.1 h
-      go Ended o h = o
+  no_majority p = grind (arith, more_marked, slice_get_within)
 
   pub no_attempt : AreOpen g w → (s : ℕ) → s < 2 → (l : ServerLive) → (v.servers s).live ≡ Some l → (k : ℕ) → k < shards g → (l.shards k).proposal ≡ None
   no_attempt o s lt l up k below = go (l.shards k).proposal refl
@@ -209,7 +193,4 @@ module _ (g : Setting) (dead : ℕ → Bool) (w : World) (es : List Entry) (most
           counted r is live = only ((ends o).each s lt l up k below p e r is live)
             where
               only : AttemptGoesOn g dead v [] [] s (next_of k (l.shards k)) p r → HasMark r p.phase
-              only (inl (inl m)) = m
-              only (inl (inr u)) = absurd (none_pending g dead v i.interval.ends (Replica r) is live _ u)
-              only (inr (inl (q, a, u))) = absurd (none_pending g dead v i.interval.ends (Server s) lt refl _ u)
-              only (inr (inr t)) = absurd (none_pending g dead v i.interval.ends (Server s) lt refl Tick t)
+              only h = grind arith

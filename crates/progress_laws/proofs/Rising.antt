@@ -1,8 +1,8 @@
 -- A replica's promise at a place rises only to a ballot that it is asked with, and it refuses with its promise.
-use Rattle.std.proofs.Common.{◌≡◌, ◌⊎◌, inl, inr, Bool, true, false, cond, ◌∷◌, ◌++◌, Some, None, refl, ap, ◌∙◌, subst, []}
+use Rattle.std.proofs.Common.{◌≡◌, ◌⊎◌, inl, inr, cond, Some, None, refl, ap, arith}
 use Rattle.std.specs.Prelude.{Option}
-use Rattle.std.proofs.lemmas.Bool.{cond_both, cond-true, cond-false}
-use Rattle.photon_model.proofs.Words.{Ballot, IsBelow, IsUpTo, is_below, is_same, below_true, below_false, Batch, same_batch, Place, is_place, Vote, promise, acceptance, VotesCell as Cell, cell_of, cell_after, votes_at, note_of, Prepared, Taken, prepare_under, on_prepare, is_accepted, vote_anew, accept_under, on_accept, Grant, Refuse, Take, Decline, place_true, cell_noted, Each, land, Packet, Prepare, Nack, Accept, Node, To, Input, Deliver, ReplicaKept, cell_at, note_at, land_replica, prepared, taken, replica_turn}
+use Rattle.std.proofs.lemmas.Bool.{cond_both}
+use Rattle.photon_model.proofs.Words.{Ballot, IsBelow, IsUpTo, is_below, is_same, below_true, below_false, Batch, same_batch, Place, Vote, promise, acceptance, VotesCell as Cell, Prepared, Taken, prepare_under, on_prepare, is_accepted, vote_anew, accept_under, on_accept, Grant, Refuse, Take, Decline, cell_noted, Each, land, Packet, Prepare, Nack, Accept, Node, To, Input, Deliver, ReplicaKept, cell_at, note_at, land_replica, prepared, taken, replica_turn}
 
 -- the input asks at the place with the ballot
 abbrev pub AsksAt : Input → Place → Ballot → Type 0
@@ -53,17 +53,7 @@ module _ (k : ReplicaKept) (at : Place) where
   Rises i now = ((cell_at now at).promised ≡ (cell_at k at).promised) ⊎ ((b : Ballot) × AsksAt i at b × ((cell_at now at).promised ≡ Some b) × IsPromiseUpTo (cell_at k at).promised b)
 
   noted : (i : Input) (p : Place) (b : Ballot) → (p ≡ at → AsksAt i at b) → (x : Option (Vote Batch)) → IsVote (cell_at k p).promised b x → Rises i (land land_replica (note_at p x) k)
-  noted i p b asks None h = inl refl
-  noted i p b asks (Some x) h = go (is_place p at) refl
-    where
-      now : cell_of (votes_at at (k.notes ++ note_of p x ∷ [])) ≡ cond (is_place p at) (cell_after (cell_at k at) x) (cell_at k at)
-      now = cell_noted at k.notes p x
-
-      go : (t : Bool) → is_place p at ≡ t → Rises i (land land_replica (note_at p (Some x)) k)
-      go true e =
-          let same = place_true p at e in
-          inr (b, asks same, ap (λ (c : Cell Batch). c.promised) (now ∙ cond-true (is_place p at) (cell_after (cell_at k at) x) (cell_at k at) e) ∙ ap Some h.0, subst (λ q. IsPromiseUpTo (cell_at k q).promised b) same h.1)
-      go false e = inl (ap (λ (c : Cell Batch). c.promised) (now ∙ cond-false (is_place p at) (cell_after (cell_at k at) x) (cell_at k at) e))
+  noted i p b asks x h = grind (arith, cell_noted)
 
   prepares : (from : Node) (p : Place) (b : Ballot) → p ≡ at → AsksAt (Deliver from (Prepare p b)) at b
   prepares from p b s = (from, inl (ap (λ q. Deliver from (Prepare q b)) s))
@@ -84,12 +74,10 @@ module _ (k : ReplicaKept) (at : Place) where
   Says i _ = Unit {0}
 
   prepared_says : (i : Input) (p : Place) (b : Ballot) → (p ≡ at → AsksAt i at b) → (t : Prepared Batch) → IsRefused (cell_at k p).promised b t → Says i (prepared p b t)
-  prepared_says i p b asks (Grant prior) h = tt
-  prepared_says i p b asks (Refuse c) h = λ s. (subst (λ q. (cell_at k q).promised ≡ Some c) s h.0, h.1, asks s)
+  prepared_says i p b asks t h = grind arith
 
   taken_says : (i : Input) (p : Place) (b : Ballot) → (p ≡ at → AsksAt i at b) → (t : Taken) → IsDeclined (cell_at k p).promised b t → Says i (taken p b t)
-  taken_says i p b asks Take h = tt
-  taken_says i p b asks (Decline c) h = λ s. (subst (λ q. (cell_at k q).promised ≡ Some c) s h.0, h.1, asks s)
+  taken_says i p b asks t h = grind arith
 
   pub says : (i : Input) → Each (λ (a : To × Packet). Says i a.1) (replica_turn k i).packets
   says (Deliver from (Prepare p b)) = (prepared_says (Deliver from (Prepare p b)) p b (prepares from p b) (on_prepare (cell_at k p) b).1 (prepare_is (cell_at k p) b (cell_at k p).promised).1, tt)

@@ -1,9 +1,9 @@
 -- Where nothing is done in an interval that does not begin at rest, a slot is attempted.
-use Rattle.std.proofs.Common.{◌≡◌, inl, inr, ⊎_elim, ℕ, ◌+◌, ◌<◌, Bool, true, false, ◌||◌, ◌&&◌, ◌==◌, nat_lt, List, ◌∷◌, length, Some, refl, sym, ap, ◌∙◌, subst, arith, [], None}
+use Rattle.std.proofs.Common.{◌≡◌, inl, inr, ⊎_elim, ℕ, ◌<◌, Bool, true, false, ◌||◌, ◌&&◌, ◌==◌, List, ◌∷◌, length, Some, refl, sym, ap, ◌∙◌, subst, arith, [], None}
 use Rattle.std.specs.Prelude.{not, is_none, is_some, ◌⊎◌, Option}
-use Rattle.std.proofs.lemmas.Bool.{true≢false, and_cases, and_from, or_parts, or_left, or_right, eq-eqb, not_from_false, not-false}
+use Rattle.std.proofs.lemmas.Bool.{true≢false, and_cases, and_from, or_parts, or_left, eq-eqb, not_from_false, not-false}
 use Rattle.time_shards.specs.Shards.{IsTable}
-use Rattle.photon_model.proofs.Words.{bound_of, Mem, has, Setting, IsJoiner, shards, site_of_joiner, is_empty, DispatcherLive, Fresh, waits, first_done, has_room, dispatcher_wants, dispatcher_at_rest, JoinerLive, Flight, joiner_at_rest, ServerLive, first_shard, is_free, is_below_limit, may_propose, server_wants, server_at_rest, ShardState, IfUp, World, Entry, after, world_after, UpWith}
+use Rattle.photon_model.proofs.Words.{Mem, has, Setting, IsJoiner, shards, site_of_joiner, is_empty, DispatcherLive, Fresh, waits, first_done, has_room, dispatcher_wants, dispatcher_at_rest, JoinerLive, Flight, joiner_at_rest, ServerLive, first_shard, is_free, is_below_limit, may_propose, server_wants, server_at_rest, ShardState, IfUp, World, Entry, after, world_after, UpWith}
 use Rattle.progress_laws.specs.Idle.{IsIdle, HasNumbers, IsWithinLimits}
 use Rattle.progress_laws.specs.Moves.{is_left}
 use Rattle.photon_model.proofs.Finding.{first_is, first_none}
@@ -27,15 +27,10 @@ pub record Stalls (g : Setting) (dead : ℕ → Bool) (w : World) (es : List Ent
 
 -- the first number that passes a test, or none
 some_passes : (test : ℕ → Bool) (n : ℕ) → is_none (first_shard test 0 n) ≡ false → (k : ℕ) × (k < n) × (test k ≡ true)
-some_passes test n e = go (first_shard test 0 n) refl e
-  where
-    go : (o : Option ℕ) → first_shard test 0 n ≡ o → is_none o ≡ false → (k : ℕ) × (k < n) × (test k ≡ true)
-    go (Some k) q e = let h = first_is test 0 n k q in let lt = h.0 in (k, omega (arith, lt), h.1)
-    go None q e = absurd (true≢false e)
+some_passes test n e = grind (arith, first_is)
 
 not_some : {A : Type 0} (o : Option A) → is_some o ≡ false → o ≡ None
-not_some None e = refl
-not_some (Some x) e = absurd (true≢false e)
+not_some o e = grind arith
 
 -- a quiet dispatcher that is not at rest has tried a line
 tried : (g : Setting) (l : DispatcherLive) → ((p : ℕ) → has l.trying p ≡ true → IsLineAt g p) → dispatcher_wants l ≡ false → dispatcher_at_rest l ≡ false → (p : ℕ) × IsTried g l p
@@ -48,11 +43,7 @@ tried g l line calm busy = by_fresh l.fresh l.trying refl refl
     by_fresh (f ∷ fs) ps e q =
         (f.position, inl (ap (λ x. waits x f.position) e ∙ or_left _ (waits fs f.position) (and_from _ _ (eq-eqb f.position f.position refl) (not_from_false f.done (sym (ap first_done e) ∙ parts.0)))))
     by_fresh [] (p ∷ ps) e q = let h : has l.trying p ≡ true = ap (λ x. has x p) q ∙ or_left (p == p) (has ps p) (eq-eqb p p refl) in (p, inr (h, line p h))
-    by_fresh [] [] e q =
-        absurd (⊎_elim
-        (λ (r : has_room l ≡ false). true≢false (sym (ap (λ n. nat_lt n 64) (let a : length l.fresh ≡ 0 = ap length e in let b : length l.trying ≡ 0 = ap length q in let c : length l.fresh + length l.trying ≡ 0 = omega (arith, a, b) in c)) ∙ r))
-        (λ r. let h = or_parts (not (is_empty l.due)) (not l.ended) r in true≢false (sym (and_from l.ended _ (not-false l.ended h.1) (and_from (is_empty l.fresh) _ (ap is_empty e) (and_from (is_empty l.due) _ (not-false (is_empty l.due) h.0) (ap is_empty q)))) ∙ busy))
-        (and_cases (has_room l) (not (is_empty l.due) || not l.ended) parts.1))
+    by_fresh [] [] e q = grind arith
 
 limits_end : (g : Setting) (es : List Entry) (w : World) → IsWithinLimits g w es → HasNumbers g (world_after g w es)
 limits_end g [] w l = l
@@ -63,10 +54,7 @@ module _ (g : Setting) (dead : ℕ → Bool) (table : IsTable g.table) (w : Worl
   v = world_after g w es
 
   server_left : (s : ℕ) → UpWith (λ l. server_at_rest g l ≡ false) (w.servers s).live → IsLeftAt g w s
-  server_left s u =
-      let x = up_is (λ (l : ServerLive). server_at_rest g l ≡ false) (w.servers s).live u in
-      let k = some_passes (λ k. nat_lt (bound_of (x.0.shards k).learned) g.horizon) (shards g) x.2 in
-      (x.0, x.1, (k.0, k.1, or_right (not (is_empty (x.0.shards k.0).queue)) (nat_lt (bound_of (x.0.shards k.0).learned) g.horizon) k.2))
+  server_left s u = grind (arith, some_passes)
 
   joiner_flies : (j : ℕ) → IsJoiner g j → UpWith (λ l. joiner_at_rest l ≡ false) (w.joiners j).live → HasFlight g w (site_of_joiner g j)
   joiner_flies j is u = let x = up_is (λ (l : JoinerLive). joiner_at_rest l ≡ false) (w.joiners j).live u in let f = some x.0.flight x.2 in (j, x.0, f.0, is, refl, x.1, f.1)

@@ -1,10 +1,10 @@
 -- In an interval in which nothing is done a line that a dispatcher has tried gets a joiner of its site a join in flight.
-use Rattle.std.proofs.Common.{◌≡◌, ◌⊎◌, inl, inr, ⊎_elim, ℕ, ◌<◌, Bool, true, false, ◌&&◌, ◌==◌, nat_lt, ◌-◌, ◌^◌, List, ◌∷◌, length, Some, None, refl, sym, ap, ◌∙◌, subst, lit<, []}
+use Rattle.std.proofs.Common.{◌≡◌, ◌⊎◌, inl, inr, ⊎_elim, ℕ, ◌<◌, Bool, true, false, ◌&&◌, ◌==◌, nat_lt, ◌-◌, ◌^◌, List, ◌∷◌, length, Some, refl, sym, ap, ◌∙◌, subst, lit<, [], arith}
 use Rattle.std.specs.Prelude.{Option, not}
-use Rattle.std.proofs.lemmas.Bool.{cond_both, true≢false, cases_Bool, and_parts, or_cases, or_left, or_right, or_from, and_right, eqb-true, lt-ltb, not_from_true}
-use Rattle.photon_model.proofs.Words.{clash, Click, ClickLine, at, first, Mem, has, mem_left, mem_right, option_both, has_without-self, Setting, IsJoiner, site_of_joiner, IsTo, Note, Out, idle, is_empty, Packet, Join, Joined, NoQuery, Node, Dispatcher, Joiner, To, Only, AnyJoiner, Input, Tick, Deliver, Sent, DispatcherKept, DispatcherLive, Fresh, waits, mark, join, fresh_joins, join_if, trying_joins, dispatcher_turn, dispatcher_unfinished, some_waits, JoinerKept, JoinerLive, Flight, in_flight, looks, joiner_turn, World, Entry, dispatcher_row, joiner_row, after, world_after, DispatcherWorks, if_up, is_out, IfUp}
+use Rattle.std.proofs.lemmas.Bool.{cond_both, true≢false, cases_Bool, and_parts, or_cases, or_left, or_right, eqb-true, lt-ltb, not_from_true}
+use Rattle.photon_model.proofs.Words.{clash, Click, ClickLine, at, first, Mem, has, mem_left, mem_right, option_both, has_without-self, Setting, IsJoiner, site_of_joiner, IsTo, Note, Out, idle, Packet, Join, Joined, NoQuery, Node, Dispatcher, Joiner, To, Only, AnyJoiner, Input, Tick, Deliver, Sent, DispatcherKept, DispatcherLive, Fresh, waits, mark, join, fresh_joins, join_if, trying_joins, dispatcher_turn, dispatcher_unfinished, some_waits, JoinerKept, JoinerLive, Flight, in_flight, looks, joiner_turn, World, Entry, dispatcher_row, joiner_row, after, world_after, DispatcherWorks, if_up, is_out, IfUp}
 use Rattle.progress_laws.specs.Idle.{IsIdle}
-use Rattle.progress_laws.proofs.Moments.{opened_at, IsEnd, Step, along_idle, Pending, none_pending, comes, turned, ended_own, lives, up_after, no_work, goes, row_sent, row_sent_to}
+use Rattle.progress_laws.proofs.Moments.{opened_at, IsEnd, Step, along_idle, Pending, comes, turned, ended_own, lives, up_after, no_work, goes, row_sent, row_sent_to}
 use Rattle.progress_laws.proofs.Claims.{HasFlight, flight_stays}
 use Rattle.photon_model.proofs.Worlds.{up_is}
 
@@ -49,18 +49,12 @@ HasLines g w = (s : ℕ) → s < 2 → (l : DispatcherLive) → (w.dispatchers s
 
 marked_waits : (fs : List Fresh) (p : ℕ) → waits (mark fs p) p ≡ false
 marked_waits [] p = refl
-marked_waits (f ∷ fs) p =
-    or_from _ _ (cond_both (f.position == p) (record f { done = true }) f (λ (x : Fresh). ((x.position == p) && not x.done) ≡ false) (λ _. and_right (f.position == p) false refl) (λ e. ap (λ t. t && not f.done) e)) (marked_waits fs p)
+marked_waits (f ∷ fs) p = grind (arith, marked_waits fs p)
 
 module _ (g : Setting) (site : ℕ) (k : DispatcherKept) (l : DispatcherLive) where
   -- a joiner's word that there is no query yet ends a trial
   told_works : (p n : ℕ) (from : Node) (o : Option Note) → IsTried g l p → DispatcherWorks l (dispatcher_turn g site k l (Deliver from (Joined p (NoQuery n)))).live o
-  told_works p n from o t =
-      cond_both (waits l.fresh p) _ _ (λ (x : Out DispatcherLive). DispatcherWorks l x.live o)
-      (λ e. inl (inr (p, e, marked_waits l.fresh p)))
-      (λ e. cond_both (has l.trying p) _ (idle l) (λ (x : Out DispatcherLive). DispatcherWorks l x.live o)
-      (λ h. inr (inl (p, h, has_without-self l.trying p)))
-      (λ h. absurd (⊎_elim (λ a. true≢false (sym a ∙ e)) (λ (a : (has l.trying p ≡ true) × IsLineAt g p). true≢false (sym a.0 ∙ h)) t)))
+  told_works p n from o t = grind (arith, marked_waits, has_without-self)
 
   abbrev pub SendsJoin : ℕ → List (To × Packet) → Type 0
   SendsJoin p ps = (c : Click) × Mem (AnyJoiner site, Join p c) ps
@@ -80,12 +74,10 @@ module _ (g : Setting) (site : ℕ) (k : DispatcherKept) (l : DispatcherLive) wh
       (λ h. more (at g.clicks q) (trying_sends ps p h line)) (or_cases (q == p) (has ps p) e)
     where
       more : (o : Option ClickLine) → SendsJoin p (trying_joins g site k l ps) → SendsJoin p (join_if g site k l q o (trying_joins g site k l ps))
-      more None h = h
-      more (Some c) h = (h.0, inr h.1)
+      more o h = grind arith
 
   tick_sends : (p : ℕ) → IsTried g l p → SendsJoin p (dispatcher_turn g site k l Tick).packets
-  tick_sends p (inl t) = let h = fresh_sends l.fresh p t in (h.0, mem_left _ (fresh_joins g site k l l.fresh) (trying_joins g site k l l.trying) h.1)
-  tick_sends p (inr t) = let h = trying_sends l.trying p t.0 t.1 in (h.0, mem_right _ (fresh_joins g site k l l.fresh) (trying_joins g site k l l.trying) h.1)
+  tick_sends p h = grind (arith, fresh_sends, mem_left, trying_sends, mem_right)
 
 -- ---- a joiner's turn that takes a Join
 
@@ -171,11 +163,7 @@ tried_unfinished g l p (inl t) = or_left (some_waits l.fresh) _ (some l.fresh t)
         ⊎_elim (λ a. or_left (not f.done) (some_waits fs) (and_parts (f.position == p) (not f.done) a).1)
         (λ a. or_right (not f.done) (some_waits fs) (some fs a))
         (or_cases ((f.position == p) && not f.done) (waits fs p) e)
-tried_unfinished g l p (inr t) = or_right (some_waits l.fresh) _ (some l.trying t.0)
-  where
-    some : (ps : List ℕ) → has ps p ≡ true → not (is_empty ps) ≡ true
-    some [] e = absurd (true≢false (sym e))
-    some (x ∷ ps) e = refl
+tried_unfinished g l p (inr t) = grind arith
 
 pub tries : (g : Setting) (dead : ℕ → Bool) (w : World) (es : List Entry) → IsIdle g dead w es → (s p : ℕ) → s < 2 → HasTried g w s p → HasFlight g (world_after g w es) s
 tries g dead w es i s p lt t = only (along_idle g dead (λ w air es. TrialGoesOn g w air es s p) (λ w air next e es step. trial_goes_on step s p) es w i begins).goes
@@ -192,7 +180,4 @@ tries g dead w es i s p lt t = only (along_idle g dead (λ w air es. TrialGoesOn
         }
 
     only : TrialGoes g v [] [] s p → HasFlight g v s
-    only (inl (inl t)) = absurd (none_pending g dead v i.interval.ends (Dispatcher s) lt refl Tick t)
-    only (inl (inr (j, from, c, is, site, u))) = absurd (none_pending g dead v i.interval.ends (Joiner j) is refl _ u)
-    only (inr (inl f)) = f
-    only (inr (inr (from, n, u))) = absurd (none_pending g dead v i.interval.ends (Dispatcher s) lt refl _ u)
+    only h = grind arith

@@ -1,7 +1,7 @@
 -- What a server's turn makes of each of its shards, and what it asks.
 use Rattle.std.proofs.Common.{subst, ◌+◌, ◌≡◌, ◌⊎◌, inl, inr, ℕ, suc, ◌<◌, ◌≤◌, max, Bool, true, false, ◌||◌, ◌&&◌, nat_lt, List, ◌∷◌, ◌++◌, length, take, Some, None, refl, sym, ap, ◌∙◌, arith, ◌-◌, []}
 use Rattle.std.specs.Prelude.{Option, not}
-use Rattle.std.proofs.lemmas.Bool.{true≢false, and_parts}
+use Rattle.std.proofs.lemmas.Bool.{and_parts}
 use Rattle.std.proofs.lemmas.List.{length-append, length-replicate}
 use Rattle.photon_model.proofs.Words.{server_tick, Ballot, Insert, Batch, bound_of, Place, Phase, nobody, on_promise, on_accepted, Promising, Accepting, Mem, Each, set_at, at_set, mem_left, none_some, some_same, Setting, shard, Out, is_empty, Packet, Prepare, Promise, Nack, Accept, Accepted, Chosen, Server, Replica, To, Only, Input, Own, Deliver, ServerKept, ServerLive, ShardState, Proposal, to_replicas, is_below_limit, is_free, may_propose, reply, replies, learns, owns, goes_on, promised, accepted, nacked, server_turn}
 use Rattle.photon_model.proofs.ServerRows.{current_at, replicas_each, reply_each, replies_each, tick_each, every_row}
@@ -48,8 +48,7 @@ abbrev pub AllAsk : (ℕ → ShardState) → List (To × Packet) → Type 0
 AllAsk f ps = Each (λ (a : To × Packet). Asks f a.1) ps
 
 is_none : (o : Option Proposal) → is_free o ≡ true → o ≡ None
-is_none None e = refl
-is_none (Some p) e = absurd (true≢false (sym e))
+is_none o e = grind arith
 
 module _ (g : Setting) (site : ℕ) (k : ServerKept) (l : ServerLive) where
   -- an attempt is drawn in the next round, where something is left to do

@@ -1,13 +1,13 @@
 -- The worked intervals, computed.
-use Rattle.std.proofs.Common.{◌≡◌, inl, ⊎_elim, ℕ, zero, suc, ◌<◌, Bool, true, false, nat_lt, ◌==◌, List, [], ◌∷◌, ◌++◌, length, Some, None, refl, sym, ap, ◌∙◌, subst, arith, lit<}
-use Rattle.std.specs.Prelude.{⊤, not, is_some, filter, Option}
+use Rattle.std.proofs.Common.{◌≡◌, inl, ℕ, zero, suc, ◌<◌, Bool, true, false, nat_lt, ◌==◌, List, [], ◌∷◌, ◌++◌, length, Some, None, refl, sym, ap, arith, lit<}
+use Rattle.std.specs.Prelude.{not, is_some, filter, Option}
 use Rattle.std.proofs.lemmas.Bool.{true≢false, ltb-true, eqb-true, not-true}
 use Rattle.photon_model.proofs.Worlds.{of_two}
-use Rattle.photon_model.proofs.Words.{at_node, Note, IsInterval, clash, Ballot, is_same, same_true, same_batch, same_batch-true, Place, is_place, place_true, Packet, Prepare, Promise, Nack, Accept, Accepted, Chosen, Node, Dispatcher, Server, Replica, Joiner, To, Only, AnyJoiner, Input, Start, Deliver, IsNode, Addressed, Sent, IsJoiner, shards, Out, dispatcher_wants, ServerLive, is_below_limit, server_wants, server_turn, IfUp, World, Entry, Begin, End, Stop, Fits, WasSent, MayBegin, May, IsRun, sends, after, world_after, same_node, UpWith, BothUp, ServerWorks, IsWork, put_in, ticks_of, ticks_due, is_unfinished, to_live, Carries, IsQuiet, Cell}
+use Rattle.photon_model.proofs.Words.{at_node, Note, IsInterval, Ballot, is_same, same_true, same_batch, same_batch-true, Place, is_place, place_true, Packet, Prepare, Promise, Nack, Accept, Accepted, Chosen, Node, Dispatcher, Server, Replica, Joiner, To, Only, AnyJoiner, Input, Start, Deliver, IsNode, Addressed, Sent, IsJoiner, shards, dispatcher_wants, ServerLive, is_below_limit, server_wants, IfUp, World, Entry, Begin, End, Stop, Fits, WasSent, MayBegin, May, IsRun, sends, after, world_after, same_node, UpWith, IsWork, put_in, ticks_of, ticks_due, is_unfinished, to_live, Carries, IsQuiet, Cell}
 use Rattle.std.proofs.lemmas.List.{length-append}
 use Rattle.progress_laws.specs.Idle.{HasNumbers, IsWithinLimits, NoWork, IsIdle}
 use Rattle.progress_laws.specs.Rows.{three, all_live, to_one, ends, plays, duel, restarts, beginning, down_again, stale, first, second, third, fourth, after_first, after_second, after_third, CarriesOnce, ThreeAreIdle}
-use Rattle.progress_laws.proofs.Moments.{put_back, row_at, begun_own, ended_own, turned}
+use Rattle.progress_laws.proofs.Moments.{put_back, row_at, begun_own}
 use Rattle.photon_model.proofs.Local.{same_node-true}
 use Rattle.progress_laws.proofs.Turning.{teaches, turns}
 
@@ -27,8 +27,7 @@ carries_once =
 -- ---- what computes to a proof, or to nothing
 
 got : {A : Type 0} (o : Option A) → is_some o ≡ true → A
-got None e = clash false e refl
-got (Some a) e = a
+got o e = grind arith
 
 abbrev if_true : {A : Type 0} (b : Bool) → (b ≡ true → A) → Option A
 if_true true f = Some (f refl)
@@ -147,10 +146,7 @@ no_joiner : (j : ℕ) → IsJoiner three j → ⊥
 no_joiner j is = let a = is.0 in let b = is.1 in omega (arith, a, b)
 
 each_node : (P : Node → Type 0) → ((s : ℕ) → s < 2 → P (Dispatcher s)) → ((s : ℕ) → s < 2 → P (Server s)) → ((r : ℕ) → r < 3 → P (Replica r)) → (n : Node) → IsNode three n → P n
-each_node P d s r (Dispatcher n) is = d n is
-each_node P d s r (Server n) is = s n is
-each_node P d s r (Replica n) is = r n is
-each_node P d s r (Joiner n) is = absurd (no_joiner n is)
+each_node P d s r n is = grind arith
 
 at_zero : (P : ℕ → Type 0) → P 0 → (k : ℕ) → k < 1 → P k
 at_zero P p zero lt = p
@@ -172,25 +168,14 @@ try_low None = Some tt
 try_low (Some l) = with_two (if_true (is_below_limit l.round) (λ e. e)) (if_true (is_below_limit (length (l.shards 0).learned)) (λ e. e)) (λ a b. (a, at_zero (λ k. is_below_limit (length (l.shards k).learned) ≡ true) b))
 
 numbers : (w : World) → ((s : ℕ) → s < 2 → IfUp (λ (l : ServerLive). (is_below_limit l.round ≡ true) × HasSlots l) (w.servers s).live) → HasNumbers three w
-numbers w h = record { rounds = λ s lt. (parts (w.servers s).live (h s lt)).0; slots = λ s lt. (parts (w.servers s).live (h s lt)).1; tokens = λ j is. absurd (no_joiner j is) }
-  where
-    parts : (o : Option ServerLive) → IfUp (λ (l : ServerLive). (is_below_limit l.round ≡ true) × HasSlots l) o → IfUp (λ (l : ServerLive). is_below_limit l.round ≡ true) o × IfUp HasSlots o
-    parts None h = (tt, tt)
-    parts (Some l) h = h
+numbers w h = grind arith
 
 abbrev try_numbers : (w : World) → Option (HasNumbers three w)
 try_numbers w = with_one (try_two (λ s. IfUp (λ (l : ServerLive). (is_below_limit l.round ≡ true) × HasSlots l) (w.servers s).live) (λ s. try_low (w.servers s).live)) (numbers w)
 
 -- a server's turn that takes nothing that teaches it a value is no work
 no_work : (w : World) (s : ℕ) (o : Option Note) (ps : List (Node × Packet)) (kept : ℕ) (l : ServerLive) (i : Input) → (w.servers s).live ≡ Some l → (w.servers s).opened ≡ Some i → teaches i ≡ false → IsWork three w (End (Server s) o ps kept) → ⊥
-no_work w s o ps kept l i up open_ none works =
-    learns (subst (λ (x : Option ServerLive). BothUp ServerWorks (Some l) x) now_is (subst (λ (x : Option ServerLive). BothUp ServerWorks x ((after three w (End (Server s) o ps kept)).servers s).live) up works))
-  where
-    now_is : ((after three w (End (Server s) o ps kept)).servers s).live ≡ Some (server_turn three s (w.servers s).kept l i).live
-    now_is = ended_own three w (End (Server s) o ps kept) (Server s) (o, ps, kept, refl) ∙ ap (λ (x : Out ServerLive). Some x.live) (turned three w (Server s) l i up open_)
-
-    learns : ServerWorks l (server_turn three s (w.servers s).kept l i).live → ⊥
-    learns (n, lt) = ⊎_elim (λ same. let e = ap length same.0.0 in omega (arith, e, lt)) (λ h. clash (teaches i) h.2 none) ((turns three s (w.servers s).kept l i).each n)
+no_work w s o ps kept l i up open_ none works = grind (arith, turns)
 
 abbrev try_idle_turn : (w : World) (s : ℕ) (o : Option Note) (ps : List (Node × Packet)) (kept : ℕ) (l : Option ServerLive) → (w.servers s).live ≡ l → (i : Option Input) → (w.servers s).opened ≡ i → Option (IsWork three w (End (Server s) o ps kept) → ⊥)
 try_idle_turn w s o ps kept (Some l) up (Some i) open_ = if_true (not (teaches i)) (λ e. no_work w s o ps kept l i up open_ (not-true (teaches i) e))
@@ -216,11 +201,7 @@ abbrev try_still : {K L : Type 0} (wants : L → Bool) (c : Cell K L) → Option
 try_still wants c = with_two (try_closed c.opened) (try_wants wants c.live) (λ a b. (a, b))
 
 quiet : (w : World) → ((s : ℕ) → s < 2 → ((w.dispatchers s).opened ≡ None) × UpWith (λ l. dispatcher_wants l ≡ false) (w.dispatchers s).live) → ((s : ℕ) → s < 2 → ((w.servers s).opened ≡ None) × UpWith (λ l. server_wants three l ≡ false) (w.servers s).live) → ((r : ℕ) → r < 3 → ((w.replicas r).opened ≡ None) × UpWith (λ l. false ≡ false) (w.replicas r).live) → IsQuiet three all_live w
-quiet w ds ss rs = record { dispatchers = ds; servers = ss; joiners = λ j is. absurd (no_joiner j is); replicas = λ r lt live. ((rs r lt).0, up (w.replicas r).live (rs r lt).1); silent = λ r lt out. clash false out refl }
-  where
-    up : (o : Option (Unit {0})) → UpWith (λ l. false ≡ false) o → UpWith (λ l. ⊤) o
-    up None u = u
-    up (Some l) u = tt
+quiet w ds ss rs = grind arith
 
 abbrev try_quiet : (w : World) → Option (IsQuiet three all_live w)
 try_quiet w =

@@ -39,5 +39,4 @@ module _ (one : HoldSameRecords) (same_whole : SameIsWhole) (keeps_whole : RowKe
       )
 
 pub row_sound : HoldSameRecords → SameIsWhole → RowKeepsWhole → (g : Setting) (before after : Images) → RowIsSound g before after
-row_sound one same_whole keeps_whole g before after row b sound added choice =
-    (still g before after sound added.was added.others b choice, now_longer one same_whole keeps_whole g before after row b sound added choice)
+row_sound one same_whole keeps_whole g before after row b sound added choice = search (still, now_longer)

@@ -1,7 +1,7 @@
 -- Rows send to nodes of the setting alone.
-use Rattle.std.proofs.Common.{◌≡◌, ℕ, ◌+◌, ◌-◌, ◌<◌, true, List, [], ◌∷◌, ◌++◌, Option, Some, None, subst, arith, ◌&&◌, ◌==◌, ◌*◌}
-use Rattle.std.specs.Prelude.{nat_lt, nat_le, ⊤}
-use Rattle.std.proofs.lemmas.Bool.{cond_both, ltb-true, leb-true, and_parts}
+use Rattle.std.proofs.Common.{◌≡◌, ℕ, ◌+◌, ◌<◌, true, List, [], ◌∷◌, ◌++◌, Option, Some, subst, arith}
+use Rattle.std.specs.Prelude.{nat_lt, ⊤}
+use Rattle.std.proofs.lemmas.Bool.{cond_both}
 use Rattle.photon_model.proofs.Words.{Each, at, Insert, Batch, Answer, Place, Phase, on_promise, on_accepted, Packet, Node, Dispatcher, Server, Replica, Joiner, To, Only, AnyJoiner, Input, Deliver, Setting, first_joiner, site_of_joiner, IsNode, IsTo, Addressed, Out, DispatcherKept, DispatcherLive, JoinerKept, JoinerLive, ServerKept, ServerLive, ShardState, Proposal, ReplicaKept, replica_gets, dispatcher_turn, joiner_turn, server_turn, to_replicas, is_own_joiner, replies, promised, accepted}
 use Rattle.photon_model.proofs.DispatcherRows.{each_packet as each_join}
 use Rattle.photon_model.proofs.JoinerRows.{each_packet}
@@ -22,8 +22,7 @@ module _ (g : Setting) where
   only n p is m e = subst (IsNode g) e is
 
   any : (site : ℕ) (p : Packet) → GoesRight (AnyJoiner site, p)
-  any site p (Joiner j) e = e.0
-  any site p _ e = absurd e
+  any site p h e = grind arith
 
   dispatcher_right : (site : ℕ) (k : DispatcherKept) (l : DispatcherLive) (i : Input) → SendsRight (dispatcher_turn g site k l i)
   dispatcher_right site k l = each_join g site k l GoesRight (λ p c. any site (packet.Join p c))
@@ -41,22 +40,16 @@ module _ (g : Setting) where
 
   module _ (site : ℕ) (k : ServerKept) (l : ServerLive) where
     joiner_is : (x : Insert) (a : Answer) → is_own_joiner g site x.token.joiner ≡ true → GoesRight (Only (Joiner x.token.joiner), packet.Reply x a)
-    joiner_is x a t =
-        let n = x.token.joiner in
-        let parts = and_parts (nat_le (first_joiner g) n && nat_lt n (first_joiner g + 2 * g.joiners)) (site_of_joiner g n == site) t in
-        let range = and_parts (nat_le (first_joiner g) n) (nat_lt n (first_joiner g + 2 * g.joiners)) parts.0 in
-        only (Joiner n) (packet.Reply x a) (leb-true (first_joiner g) n range.0, ltb-true n (first_joiner g + 2 * g.joiners) range.1)
+    joiner_is x a t = grind arith
 
     replies_right : (vs : List Batch) (xs : List Insert) → Each GoesRight (replies g site vs xs)
     replies_right vs xs = replies_each g site GoesRight vs xs (λ x a m e t. joiner_is x a t)
 
     promise_right : (at : Place) (st : ShardState) (p : Proposal) (turn : Phase Batch × Option Batch) → SendsRight (promised g site k l at st p turn)
-    promise_right at st p (phase, None) = tt
-    promise_right at st p (phase, Some v) = replicas_right site (packet.Accept at p.ballot v)
+    promise_right at st p turn = grind (arith, replicas_right)
 
     accepted_right : site < 2 → (at : Place) (st : ShardState) (p : Proposal) (phase : Phase Batch) (o : Option Batch) → SendsRight (accepted g site k l at st p phase o)
-    accepted_right below at st p phase None = tt
-    accepted_right below at st p phase (Some v) = (only (Server (1 - site)) (packet.Chosen at v) (omega arith), replies_right (st.learned ++ v ∷ []) st.queue)
+    accepted_right below at st p phase o = grind (arith, replies_right)
 
     server_right : site < 2 → (i : Input) → SendsRight (server_turn g site k l i)
     server_right below =
@@ -76,9 +69,7 @@ module _ (g : Setting) where
   -- ---- replicas: to whoever asks
 
   replica_gets_right : (k : ReplicaKept) (from : Node) (p : Packet) → IsNode g from → SendsRight (replica_gets k from p)
-  replica_gets_right k from (packet.Prepare at b) is = (λ m e. subst (IsNode g) e is, tt)
-  replica_gets_right k from (packet.Accept at b v) is = (λ m e. subst (IsNode g) e is, tt)
-  replica_gets_right k from _ is = tt
+  replica_gets_right k from p is = grind arith
 
   -- ---- all
 

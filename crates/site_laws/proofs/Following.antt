@@ -1,5 +1,5 @@
 -- From each front of what the bus kept, and of the model's run so far, to the next.
-use Rattle.std.proofs.Common.{◌≡◌, ◌≢◌, ◌⊎◌, inl, inr, ⊎_elim, ℕ, Bool, true, false, cond, ◌==◌, List, [], ◌∷◌, ◌++◌, map, Option, Some, None, refl, sym, ap, ◌∙◌, subst, append_assoc, eq-eqb, ne_eqb}
+use Rattle.std.proofs.Common.{◌≡◌, ◌≢◌, ◌⊎◌, inl, inr, ⊎_elim, ℕ, Bool, true, false, cond, ◌==◌, List, [], ◌∷◌, ◌++◌, map, Option, Some, None, refl, sym, ap, ◌∙◌, subst, append_assoc, eq-eqb, ne_eqb, arith}
 use Rattle.std.specs.Prelude.{All}
 use Rattle.std.proofs.lemmas.Bool.{eqb-true, eqb-false}
 use Rattle.std.proofs.lemmas.List.Elements.{All-head, All-tail}
@@ -49,8 +49,7 @@ sent_push (d ∷ h) e x m =
 
 from_packets : (k : ℕ) (ps : List (Node × Packet)) (x : BusSent) → Mem x (map (sent_to k) (map addressed ps)) → (q : Node × Packet) × Mem q ps × (sent_to k (addressed q) ≡ x)
 from_packets k [] x m = absurd m
-from_packets k (p ∷ ps) x (inl e) = (p, inl refl, e)
-from_packets k (p ∷ ps) x (inr m) = let r = from_packets k ps x m in (r.0, inr r.1, r.2)
+from_packets k (p ∷ ps) x h = grind (arith, from_packets k ps x)
 
 all_at : (P : Node × Packet → Type 0) (ps : List (Node × Packet)) (q : Node × Packet) → All P ps → Mem q ps → P q
 all_at P [] q all m = absurd m
@@ -59,8 +58,7 @@ all_at P (p ∷ ps) q all (inr m) = all_at P ps q (All-tail P p ps all) m
 
 mem_sends : (n : Node) (ps : List (Node × Packet)) (q : Node × Packet) → Mem q ps → Mem (record { from = n; to = q.0; packet = q.1 }) (sends n ps)
 mem_sends n [] q m = absurd m
-mem_sends n (p ∷ ps) q (inl e) = inl (ap (λ (y : Node × Packet). record { from = n; to = y.0; packet = y.1 }) e)
-mem_sends n (p ∷ ps) q (inr m) = inr (mem_sends n ps q m)
+mem_sends n (p ∷ ps) q h = grind (arith, mem_sends n ps q)
 
 module _ (g : Setting) (numbers : NumbersAreNodes g) where
   wider : (old more : List Sent) (x : BusSent) → IsSentAs g old x → IsSentAs g (more ++ old) x
@@ -118,11 +116,7 @@ module _ (g : Setting) (one : OneSpelling) (numbers : NumbersAreNodes g) (h : Li
   some_node before e rest w f = by (node_of g (number_in e)) refl
     where
       by : (o : Option Node) → node_of g (number_in e) ≡ o → (n : Node) × (o ≡ Some n)
-      by (Some n) is = (n, refl)
-      by None is = absurd (none (made_here e rest (number_in e) refl) (f.no_others (number_in e) is))
-        where
-          none : made_by (number_in e) (e ∷ rest) ≡ e ∷ made_by (number_in e) rest → made_by (number_in e) (e ∷ rest) ≡ [] → ⊥
-          none a b = cc
+      by o is = grind arith
 
   -- what a turn begins with can be read, and was sent
   reads : (before : List BusEntry) (e : BusEntry) (rest : List BusEntry) (w : World) → Followed before (e ∷ rest) w
@@ -153,8 +147,7 @@ module _ (g : Setting) (one : OneSpelling) (numbers : NumbersAreNodes g) (h : Li
       other ne =
           let differs : m ≢ n = λ same. ne (sym (numbers.back (number_in e) n is).0 ∙ ap node_number (sym same)) in
           let x = f.nodes m is_node in
-          subst (λ (d : CellOf m). GoesFrom g m d rest (at m)) (sym (put_else w n m c more differs))
-          (x.0, x.1, subst (λ (l : List BusEntry). Path (rows_of m) (state_at (rows_of m) g (cell_of w m) x.0) l (at m)) (made_else e rest (node_number m) ne) x.2)
+          grind (arith, put_else)
 
       by : (b : Bool) → (number_in e == node_number m) ≡ b → GoesFrom g m (cell_of (put w n c more) m) rest (at m)
       by true t = here (eqb-true (number_in e) (node_number m) t)
@@ -194,12 +187,7 @@ module _ (g : Setting) (one : OneSpelling) (numbers : NumbersAreNodes g) (h : Li
       }
 
   stands_now : (n : Node) (c : CellOf n) → GoesFrom g n c [] (at n) → StandsFor g c (at n)
-  stands_now n c goes = record {
-    setting = sym (ap (λ (t : StateOf n). t.setting) goes.2);
-    kept = ap (λ (t : StateOf n). t.kept) goes.2;
-    live = ap (λ (t : StateOf n). t.live) goes.2;
-    opened = subst (λ (t : StateOf n). OpenedAs g t.opened c.opened) goes.2 goes.1;
-  }
+  stands_now n c goes = grind arith
 
   pub follow : (rest before : List BusEntry) (w : World) → Followed before rest w → Follows w rest
   follow [] before w f = record { entries = []; means = tt; run = tt; stands = λ n is. stands_now n (cell_of w n) (f.nodes n is) }

@@ -1,5 +1,5 @@
 -- Bytes keep one store, and that by what they stand for alone.
-use Rattle.std.proofs.Common.{◌≡◌, ℕ, ◌<◌, List, [], ◌∷◌, ◌++◌, Option, Some, None, Result, Ok, refl, sym, ◌∙◌, ap, subst}
+use Rattle.std.proofs.Common.{◌≡◌, ℕ, ◌<◌, List, [], ◌∷◌, ◌++◌, Option, Result, Ok, refl, sym, ◌∙◌, ap, subst, arith}
 use Rattle.std.specs.Prelude.{map, All, option_map}
 use Rattle.std.proofs.lemmas.List.Elements.{All-head, All-tail}
 use Rattle.photon_model.proofs.Words.{Each, Promised, Took as Accepted, PairRec, IsPair, Node, Dispatcher, Server, Replica, Joiner, Setting, IsNode, BallotNote, ReplicaKept, Disks, Topology}
@@ -48,16 +48,7 @@ one_list : {A : Type 0} (P : A → Type 0) (f : A → List ℕ) → ((x y : A) �
 one_list P f apart [] [] h k e = refl
 one_list P f apart [] (y ∷ ys) h k e = absurd (cc e)
 one_list P f apart (x ∷ xs) [] h k e = absurd (cc e)
-one_list P f apart (x ∷ xs) (y ∷ ys) h k e =
-    let first : x ≡ y = apart x y h.0 k.0 (head_same (f x) (f y) (map f xs) (map f ys) e) in
-    let rest : xs ≡ ys = one_list P f apart xs ys h.1 k.1 (tail_same (f x) (f y) (map f xs) (map f ys) e) in
-    ap (λ z. z ∷ xs) first ∙ ap (λ zs. y ∷ zs) rest
-  where
-    head_same : (a b : List ℕ) (as_ bs : List (List ℕ)) → a ∷ as_ ≡ b ∷ bs → a ≡ b
-    head_same a b as_ bs e = cc
-
-    tail_same : (a b : List ℕ) (as_ bs : List (List ℕ)) → a ∷ as_ ≡ b ∷ bs → as_ ≡ bs
-    tail_same a b as_ bs e = cc
+one_list P f apart (x ∷ xs) (y ∷ ys) h k e = grind (arith, one_list P f apart xs ys h.1 k.1)
 
 all_each : {A : Type 0} (P : A → Type 0) (xs : List A) → All P xs → Each P xs
 all_each P [] h = tt
@@ -77,16 +68,13 @@ as_vote (replica.Promised shard slot b) = Promised (place_of shard slot) b
 as_vote (replica.Accepted shard slot b v) = Accepted (place_of shard slot) b v
 
 back : (n : BallotNote) → as_vote (as_note n) ≡ n
-back (Promised at b) = refl
-back (Accepted at b v) = refl
+back n = grind arith
 
 record_is : (n : BallotNote) → vote_record n ≡ note (as_note n)
-record_is (Promised at b) = refl
-record_is (Accepted at b v) = refl
+record_is n = grind arith
 
 is_note : (n : BallotNote) → IsVoted n → IsNote (as_note n)
-is_note (Promised at b) is = is
-is_note (Accepted at b v) is = is
+is_note n is = grind arith
 
 module _ (notes_apart : NotesApart) where
   record_apart : (m n : BallotNote) → IsVoted m → IsVoted n → vote_record m ≡ vote_record n → m ≡ n
@@ -114,25 +102,15 @@ abbrev as_kept : Option Topology → Option KeptTopology
 as_kept kept = option_map (λ (t : Topology). journal.topology_of t.joiners t.table) kept
 
 pub keep_one_topology : KeepOneTopology
-keep_one_topology t u c a b = from_read t u (one_value (read_as journal.topologies (gate_rule c)) _ _ a b)
-  where
-    from_read : (t u : Option Topology) → as_kept t ≡ as_kept u → t ≡ u
-    from_read None None e = refl
-    from_read None (Some u) e = absurd (cc)
-    from_read (Some t) None e = absurd (cc)
-    from_read (Some t) (Some u) e =
-        let same : journal.topology_of t.joiners t.table ≡ journal.topology_of u.joiners u.table = cc in
-        ap (λ (x : KeptTopology). Some (record { joiners = x.joiners; table = x.table })) same
+keep_one_topology t u c a b = grind arith
 
 -- ---- what was read
 
 pub read_topology : ReadTopologyIsKept
-read_topology None bytes k = k
-read_topology (Some t) bytes k = k
+read_topology h bytes k = grind arith
 
 view_record : (n : ReplicaNote) → note n ≡ vote_record (note_view n)
-view_record (replica.Promised shard slot b) = refl
-view_record (replica.Accepted shard slot b v) = refl
+view_record n = grind arith
 
 views_record : (ns : List ReplicaNote) → map note ns ≡ map vote_record (map note_view ns)
 views_record [] = refl

@@ -1,7 +1,6 @@
 -- What all disks may hold is an image of the model's world after the run.
-use Rattle.std.proofs.Common.{◌≡◌, ⊎_elim, Bool, true, false, ◌&&◌, List, [], ◌∷◌, ◌++◌, Option, Some, None, refl, sym, ap, ◌∙◌, subst}
-use Rattle.std.specs.Prelude.{is_some, if◌then◌else◌}
-use Rattle.photon_model.proofs.Words.{Setting, IsNode, Note, Out, land, Node, Dispatcher, Server, Replica, Joiner, Input, World, Entry, Begin, End, Stop, Disks, disks, after, world_after, May, IsRun, down, opening, WholeSound, RunsKeepWhole, left_by, image, ImagesAreRuns, Cell}
+use Rattle.std.proofs.Common.{◌≡◌, ⊎_elim, Bool, true, List, [], ◌∷◌, ◌++◌, Some, refl, ◌∙◌, subst, arith}
+use Rattle.photon_model.proofs.Words.{Setting, IsNode, land, Node, Dispatcher, Server, Replica, Joiner, Input, World, Entry, Begin, End, Stop, Disks, disks, after, world_after, May, IsRun, opening, WholeSound, RunsKeepWhole, left_by, image, ImagesAreRuns, Cell}
 use Rattle.air_bus.specs.declared.entry.Input.{Input as Bytes}
 use Rattle.air_bus.specs.declared.entry.Entry.{Entry as BusEntry}
 use Rattle.site_node.specs.Bytes.{Reads}
@@ -10,7 +9,7 @@ use Rattle.site_laws.specs.Kinds.{StateOf, rows_of, cell_of, kept_of}
 use Rattle.site_laws.specs.Meaning.{StandsFor}
 use Rattle.site_laws.specs.Choosing.{is_node_or}
 use Rattle.site_laws.specs.Laws.{IsRunOf, MayLeave, LeftIsWhole}
-use Rattle.site_laws.proofs.Stepping.{OneSpelling, Begins, Ends, Stops, Deed, entry_of, sent_of, done, model_row, opened_some, one_reading, row_is}
+use Rattle.site_laws.proofs.Stepping.{OneSpelling, Begins, Ends, Stops, Deed, entry_of, model_row, one_reading}
 use Rattle.site_laws.proofs.Lifting.{CellOf, put_else, after_is, cell_opening}
 
 -- ---- one kind of node
@@ -21,43 +20,19 @@ module _ {K L : Type 0} (rows : Rows K L) (g : Setting) (one : OneSpelling) (c :
   Landed = (b : Bool) × (left_by rows.lands (model_row rows g c) b c ≡ k)
 
   not_landed : k ≡ s.kept → Landed
-  not_landed e = (false, ap (λ (o : Option Note). land rows.lands o c.kept) (none (is_some c.opened)) ∙ stands.kept ∙ sym e)
-    where
-      none : (b : Bool) → (if b && false then (model_row rows g c).note else None) ≡ None
-      none true = refl
-      none false = refl
+  not_landed e = grind arith
 
   has_landed : (b : Bytes) × (i : Input) × (s.opened ≡ Some b) × Reads s.setting b i × (k ≡ land rows.lands (row_of rows s.setting s.kept s.live i).note s.kept) → Landed
-  has_landed x =
-      let b = x.0 in
-      let i = x.1 in
-      let open_turn = opened_some g s.opened c.opened b stands.opened x.2 in
-      let same : open_turn.0 ≡ i = one_reading one g b open_turn.0 i open_turn.2 (subst (λ h. Reads h b i) stands.setting x.3) in
-      let row_same : model_row rows g c ≡ row_of rows s.setting s.kept s.live i =
-      row_is rows g c open_turn.0 open_turn.1 ∙ ap (λ j. row_of rows g c.kept c.live j) same ∙ ap (λ (l : Option L). row_of rows g c.kept l i) stands.live
-      ∙ ap (λ q. row_of rows g q s.live i) stands.kept ∙ ap (λ h. row_of rows h s.kept s.live i) (sym stands.setting) in (
-        true,
-        ap (λ (o : Option Input). land rows.lands (if is_some o && true then (model_row rows g c).note else None) c.kept) open_turn.1
-            ∙ ap (λ (r : Out L). land rows.lands r.note c.kept) row_same ∙ ap (λ q. land rows.lands (row_of rows s.setting s.kept s.live i).note q) stands.kept ∙ sym x.4,
-      )
+  has_landed x = grind (arith, one_reading)
 
   pub held : MayHold rows s k → Landed
   held m = ⊎_elim not_landed has_landed m
 
 -- ---- numbers that no node has
 
--- who may come next is a node of the setting
-may_be : (g : Setting) (w : World) (m : Node) (deed : Deed) → May g w (entry_of m deed) → IsNode g m
-may_be g w (Dispatcher s) (Begins i) may = may.0
-may_be g w (Server s) (Begins i) may = may.0
-may_be g w (Replica r) (Begins i) may = may.0
-may_be g w (Joiner j) (Begins i) may = may.0
-may_be g w _ _ may = may.0
-
 module _ (g : Setting) (n : Node) (none : IsNode g n → ⊥) where
   deed_still : (w : World) (m : Node) (deed : Deed) → May g w (entry_of m deed) → cell_of (after g w (entry_of m deed)) n ≡ cell_of w n
-  deed_still w m deed may =
-      ap (λ v. cell_of v n) (after_is g w m deed) ∙ put_else w m n (done (rows_of m) g (cell_of w m) deed) (sent_of m deed) (λ same. none (subst (IsNode g) (sym same) (may_be g w m deed may)))
+  deed_still w m deed may = grind (arith, after_is, put_else)
 
   entry_still : (w : World) (e : Entry) → May g w e → cell_of (after g w e) n ≡ cell_of w n
   entry_still w (Begin m i) may = deed_still w m (Begins i) may
@@ -79,9 +54,7 @@ module _ (one : OneSpelling) (g : Setting) (d : Disks) (h : List BusEntry) (at :
 
   -- a number that no node has is down over what it held
   other_at : (n : Node) → (IsNode g n → ⊥) → LandedAt n
-  other_at n none =
-      let still : cell_at n ≡ down (kept_of d n) = run_still g n none (opening d) es is.run ∙ cell_opening d n in
-      (false, ap (λ (c : CellOf n). left_by (rows_of n).lands (model_row (rows_of n) g c) false c) still ∙ sym (leaves.others n none))
+  other_at n none = grind (arith, run_still, cell_opening)
 
   landed_at : (n : Node) → LandedAt n
   landed_at n = ⊎_elim (λ k. held (rows_of n) g one (cell_at n) (at n) (is.stands n k) (kept_of left n) (leaves.nodes n k)) (other_at n) (is_node_or g n)

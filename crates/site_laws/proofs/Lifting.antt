@@ -1,5 +1,5 @@
 -- What one node does, in the world of all.
-use Rattle.std.proofs.Common.{◌≡◌, ◌≢◌, ⊎_elim, ℕ, ◌≤◌, cond, List, ◌++◌, None, refl, sym, ap, ◌∙◌, eq-eqb, ne_eqb}
+use Rattle.std.proofs.Common.{◌≡◌, ◌≢◌, ⊎_elim, ℕ, ◌≤◌, cond, List, ◌++◌, None, refl, sym, ap, ◌∙◌, eq-eqb, ne_eqb, arith}
 use Rattle.std.proofs.lemmas.Bool.{cases_lt}
 use Rattle.photon_model.proofs.Words.{set_at, Setting, none_some, IsNode, node_of, node_count, NumbersAreNodes, Sent, Node, Dispatcher, Server, Replica, Joiner, World, Disks, after, May, down, opening, Cell}
 use Rattle.site_laws.specs.Kinds.{KeptOf, LiveOf, rows_of, cell_of, kept_of}
@@ -16,8 +16,7 @@ put w (Replica r) c more = record w { replicas = set_at w.replicas r c; sent = m
 put w (Joiner j) c more = record w { joiners = set_at w.joiners j c; sent = more ++ w.sent }
 
 pub put_sent : (w : World) (n : Node) (c : CellOf n) (more : List Sent) → (put w n c more).sent ≡ more ++ w.sent
-put_sent w (Dispatcher s) c more = refl
-put_sent w _ c more = refl
+put_sent w n c more = grind arith
 
 set_here : {A : Type 0} (f : ℕ → A) (n : ℕ) (v : A) → set_at f n v n ≡ v
 set_here f n v = ap (λ b. cond b v (f n)) (eq-eqb n n refl)

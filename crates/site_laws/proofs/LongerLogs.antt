@@ -1,6 +1,5 @@
 -- A store whose logs have grown.
-use Rattle.std.proofs.Common.{◌≡◌, List, ◌∙◌, ap}
-use Rattle.time_shards.specs.declared.ShardRow.{ShardRow}
+use Rattle.std.proofs.Common.{◌≡◌, ◌∙◌, arith}
 use Rattle.turn_defs.specs.Setting.{Setting}
 use Rattle.photon_model.specs.Topology.{topology_of}
 use Rattle.photon_model.specs.Stores.{IsOneTopology, LongerKeepsWhole}
@@ -9,8 +8,7 @@ use Rattle.site_laws.specs.StoreLaws.{LongerStaysSound}
 use Rattle.site_laws.proofs.SameDisks.{disk_onward, disk_back, keeps_onward}
 
 topology_same : (g h : Setting) → IsOneTopology g h → topology_of g ≡ topology_of h
-topology_same g h one =
-    ap (λ n. record { joiners = n; table = g.table }) one.joiners ∙ ap (λ (t : List ShardRow). record { joiners = h.joiners; table = t }) one.table
+topology_same g h one = grind arith
 
 pub longer_sound : LongerKeepsWhole → (image : Images) → LongerStaysSound image
 longer_sound whole image g h query_log click_log more_queries more_clicks longer sound b choice =

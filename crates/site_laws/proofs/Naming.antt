@@ -10,9 +10,7 @@ below_or : (m n : ℕ) → (m < n) ⊎ (m < n → ⊥)
 below_or m n = ⊎_elim (λ l. inl l) (λ l. inr (λ k. absurd (omega (arith, k, l)))) (cases_lt m n)
 
 both_or : {P Q : Type 0} → P ⊎ (P → ⊥) → Q ⊎ (Q → ⊥) → (P × Q) ⊎ (P × Q → ⊥)
-both_or (inl p) (inl q) = inl (p, q)
-both_or (inl p) (inr no_) = inr (λ x. no_ x.1)
-both_or (inr no_) q = inr (λ x. no_ x.0)
+both_or h k = grind arith
 
 pub is_disk_or : (g : Setting) (disk : DiskName) → IsDisk g disk ⊎ (IsDisk g disk → ⊥)
 is_disk_or g name.Topology = inl tt
@@ -30,8 +28,7 @@ module _ (g : Setting) (P : DiskName → List ℕ → Type 0) (each : (disk : Di
   pick disk (inr never) = []
 
   picked : (disk : DiskName) (o : IsDisk g disk ⊎ (IsDisk g disk → ⊥)) → IsDisk g disk → P disk (pick disk o)
-  picked disk (inl is) i = (each disk is).1
-  picked disk (inr never) i = absurd (never i)
+  picked disk o i = grind arith
 
   pub choose : (b : Bytes) × ((disk : DiskName) → IsDisk g disk → P disk (b disk))
   choose = (λ disk. pick disk (is_disk_or g disk), λ disk i. picked disk (is_disk_or g disk) i)

@@ -1,6 +1,6 @@
 -- What is sound is so by the records of the setting's nodes alone.
-use Rattle.std.proofs.Common.{◌≡◌, ◌⊎◌, inl, inr, ⊎_elim, ℕ, ◌+◌, ◌<◌, ◌≤◌, List, ◌∷◌, refl, sym, ◌∙◌, ap, subst, arith, zero, suc}
-use Rattle.photon_model.proofs.Words.{EventId, Insert, Batch, IsGranted, Registered, Expired, Mem, Each, each_more, Promised, Took as Accepted, JournalsAgree, PairRec, Dispatcher, Server, Replica, Joiner, Setting, shard, BallotNote, DispatcherKept, JoinerKept, ServerKept, ReplicaKept, values_from, journals, AreOwned, Disks, Known, IsWritten, IsSettled, DispatcherSound, PairSound, JoinerSound, DrawnSound, InsertsOf, known_of, Sound, inserts_of, accepted_inserts, SoundStore, IsBlank}
+use Rattle.std.proofs.Common.{◌≡◌, ◌⊎◌, inl, inr, ⊎_elim, ℕ, ◌+◌, ◌<◌, ◌≤◌, List, refl, sym, ◌∙◌, ap, subst, arith, zero, suc}
+use Rattle.photon_model.proofs.Words.{EventId, Insert, Batch, IsGranted, Registered, Expired, Mem, Each, each_more, JournalsAgree, PairRec, Dispatcher, Server, Replica, Joiner, Setting, shard, BallotNote, DispatcherKept, JoinerKept, ServerKept, ReplicaKept, values_from, journals, AreOwned, Disks, Known, IsWritten, IsSettled, DispatcherSound, PairSound, JoinerSound, DrawnSound, InsertsOf, known_of, Sound, inserts_of, accepted_inserts, SoundStore, IsBlank}
 use Rattle.photon_model.specs.Journals.{decided}
 use Rattle.site_laws.specs.Stores.{SameRecords}
 use Rattle.site_laws.specs.StoreLaws.{SameIsSound, SameIsWhole}
@@ -8,8 +8,7 @@ use Rattle.site_laws.specs.StoreLaws.{SameIsSound, SameIsWhole}
 -- functions that are the same at so many numbers have the same values there
 values_same : {A : Type 0} (f h : ℕ → A) (from n : ℕ) → ((k : ℕ) → k < from + n → f k ≡ h k) → values_from f from n ≡ values_from h from n
 values_same f h from zero same = refl
-values_same f h from (suc n) same =
-    ap (λ x. x ∷ values_from f (suc from) n) (same from (omega arith)) ∙ ap (λ xs. h from ∷ xs) (values_same f h (suc from) n (λ k l. same k (omega (arith, l))))
+values_same f h from (suc n) same = grind (arith, values_same f h (suc from) n)
 
 module _ (g : Setting) (d e : Disks) (same : SameRecords g d e) where
   journals_same : journals g.replicas d.replicas ≡ journals g.replicas e.replicas
@@ -61,8 +60,7 @@ module _ (g : Setting) (d e : Disks) (same : SameRecords g d e) where
     }
 
     note_same : (n : BallotNote) → InsertsOf g before n → InsertsOf g after n
-    note_same (Promised p b) x = x
-    note_same (Accepted p b v) x = x
+    note_same n x = grind arith
 
     owned_same : AreOwned (journals g.replicas d.replicas) (λ s. (d.servers s).epoch) → AreOwned (journals g.replicas e.replicas) (λ s. (e.servers s).epoch)
     owned_same x at r v h =

@@ -1,5 +1,5 @@
 -- What keeps the disks of a store sound: no bytes at all, nothing new, the topology's record, and what is read from them.
-use Rattle.std.proofs.Common.{◌≡◌, ◌≢◌, ⊎_elim, ℕ, Bool, true, List, [], Option, Some, None, refl, sym, ◌∙◌, ap, subst}
+use Rattle.std.proofs.Common.{◌≡◌, ◌≢◌, ⊎_elim, ℕ, Bool, true, List, [], Option, Some, None, refl, sym, ◌∙◌, ap, subst, arith}
 use Rattle.std.specs.Result.{result_unwrap_or}
 use Rattle.std.proofs.lemmas.List.Elements.{All-nil}
 use Rattle.photon_model.proofs.Words.{some_same, none_some, IsPair, Setting, Topology, topology_of, Store, WholeSound, empty_disks, empty_store, TopologyComesFirst}
@@ -44,16 +44,7 @@ records_same : (c d : List ℕ) → gate_rule c ≡ gate_rule d → records c �
 records_same c d e some none = some (ap (λ r. result_unwrap_or r []) e ∙ none)
 
 keep_again : (g : Setting) (b c : Bytes) → ((disk : DiskName) → IsDisk g disk → gate_rule (b disk) ≡ gate_rule (c disk)) → KeepSound g b → KeepSound g c
-keep_again g b c stands x = (
-  x.0,
-  record {
-    topology = topology_again x.0.topology (b name.Topology) (c name.Topology) (stands name.Topology tt) x.1.topology;
-    records = λ disk is. keeps_again g x.0.disks disk (b disk) (c disk) (stands disk is) (x.1.records disk is);
-    used = λ disk is other some. x.1.used disk is other (records_same (c disk) (b disk) (sym (stands disk is)) some);
-  },
-  x.2,
-  x.3,
-)
+keep_again g b c stands x = grind arith
 
 pub stays_sound : (g : Setting) (before after : Images) → StaysSound g before after
 stays_sound g before after sound stays b choice =
@@ -117,9 +108,7 @@ module _ (g : Setting) (image : Images) (s : Store) (sound : IsSoundStore g imag
   Read disk c = (image disk c × KeepsOf g s.disks disk c) × (disk ≡ name.Topology → KeepsTopology s.topology c)
 
   read_each : (disk : DiskName) → IsDisk g disk → (c : List ℕ) × Read disk c
-  read_each =
-      by_topology (λ disk. IsDisk g disk → (c : List ℕ) × Read disk c) (λ _. (left.topology.0, ((left.topology.1, tt), λ _. left.topology.2)))
-      (λ disk other is. let x = left.records disk is in (x.0, ((x.1, x.2), λ same. absurd (other same))))
+  read_each = grind arith
 
   pub opened_whole : KeepOneTopology → HoldSameRecords → SameIsWhole → (used : Bool) × WholeSound g (record s { is_used = used }) × IsFit g s
   opened_whole one_topology one_records same_whole =

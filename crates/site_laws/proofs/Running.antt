@@ -1,15 +1,14 @@
 -- What a run leaves of a store's disks.
-use Rattle.std.proofs.Common.{◌≡◌, ⊎_elim, ℕ, ◌<◌, true, Option, refl, sym, ◌∙◌, subst}
-use Rattle.photon_model.proofs.Words.{Each, some_same, Node, Dispatcher, Server, Replica, Joiner, Setting, IsNode, JoinerKept, ReplicaKept, Disks, Topology, topology_of}
+use Rattle.std.proofs.Common.{◌≡◌, ℕ, ◌<◌, true, Option, refl, sym, ◌∙◌, subst, arith}
+use Rattle.photon_model.proofs.Words.{some_same, Node, Dispatcher, Server, Replica, Joiner, Setting, IsNode, JoinerKept, Disks, Topology, topology_of}
 use Rattle.outside.specs.declared.store.DiskName.TheVariants as name
 use Rattle.offset_journal.specs.Offsets.{Keeps as KeepsOffset}
 use Rattle.retry_log.specs.Pending.{Keeps as KeepsPending}
 use Rattle.epoch_journal.specs.Epochs.{Keeps as KeepsEpoch}
 use Rattle.output_log.specs.Pairs.{Keeps as KeepsPairs}
-use Rattle.site_node.specs.Replicas.{IsVoted, replica_rows}
 use Rattle.site_node.proofs.Replicas.{row_landed_ok}
-use Rattle.site_node.proofs.Replicas.{input_ok, row_ok}
-use Rattle.site_node.specs.States.{MayHold, row}
+use Rattle.site_node.proofs.Replicas.{row_ok}
+use Rattle.site_node.specs.States.{MayHold}
 use Rattle.site_laws.specs.Kinds.{KeptOf, StateOf, rows_of, kept_of}
 use Rattle.site_laws.specs.Choosing.{all_left}
 use Rattle.site_laws.specs.Laws.{MayLeave, LeftIsWhole}
@@ -79,9 +78,4 @@ run_sound whole g image s h at es checked sound topology run kept b choice =
 -- ---- a replica
 
 pub states_keep_votes : StatesKeepVotes
-states_keep_votes s c each held =
-    let spelled : Each IsVoted held.0.notes =
-    ⊎_elim (λ now. subst (λ (k : ReplicaKept). Each IsVoted k.notes) (sym now) each)
-    (λ more. subst (λ (k : ReplicaKept). Each IsVoted k.notes) (sym more.4) (row_landed_ok s.kept (row replica_rows s more.1).note each (row_ok s.setting s.kept s.live more.1 each (input_ok s.setting more.0 more.1 more.3)).note))
-    held.1 in
-    (held.0, held.1, (spelled, held.2))
+states_keep_votes s c each held = grind (arith, row_landed_ok, row_ok)

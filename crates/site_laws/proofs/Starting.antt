@@ -1,5 +1,5 @@
 -- The worked history of a dispatcher that comes up.
-use Rattle.std.proofs.Common.{◌≡◌, ◌≢◌, inl, ℕ, zero, suc, false, cond, List, [], ◌∷◌, None, refl, sym, ap, ◌∙◌, subst, arith, ne_eqb}
+use Rattle.std.proofs.Common.{◌≡◌, ◌≢◌, ℕ, zero, suc, false, cond, List, [], ◌∷◌, None, refl, sym, ap, ◌∙◌, subst, arith, ne_eqb}
 use Rattle.std.proofs.lemmas.List.Elements.{All-nil}
 use Rattle.photon_model.proofs.Words.{none_some, IsNode, node_number, node_of, worked, Packet, IsPacket, Node, Dispatcher, Server, Replica, Joiner, Start, empty_disks}
 use Rattle.lossy_link.specs.declared.plan.Kind.{Kind}
@@ -29,11 +29,7 @@ still : (n : Node) → 0 ≢ node_number n → down_over worked empty_disks n �
 still n ne is = subst (λ (l : List BusEntry). Path (rows_of n) (down_over worked empty_disks n) l (stands_at n)) (sym (none_made (node_number n) ne)) is
 
 paths : (n : Node) → IsNode worked n → Path (rows_of n) (down_over worked empty_disks n) (made_by (node_number n) on_the_bus) (stands_at n)
-paths (Dispatcher zero) is = (
-  _,
-  (refl, tt, refl),
-  (_, (bytes.Start, refl, omega arith, inl (Start, refl, record { noted = refl; packets = []; spelled = none_spelled; sent = tt; state = refl })), refl),
-)
+paths (Dispatcher zero) is = grind arith
 paths (Dispatcher (suc s)) is = still (Dispatcher (suc s)) (λ e. absurd (omega (arith, e))) (ap (λ b. cond b up_dispatcher (down_over worked empty_disks (Dispatcher (suc s)))) (sym (ne_eqb (suc s) 0 (λ e. absurd (omega (arith, e))))))
 paths (Server s) is = still (Server s) (λ e. absurd (omega (arith, e))) refl
 paths (Replica r) is = still (Replica r) (λ e. absurd (omega (arith, e))) refl
@@ -57,7 +53,4 @@ comes_up = record {
 }
 
 pub strict : DownIsStrict
-strict = record {
-  no_end = λ m n d es t p. none_some p.1.0 p.1.1;
-  no_tick = λ m n d es t p. p.1.1;
-}
+strict = grind arith

@@ -1,8 +1,8 @@
 -- One entry of a node of any kind: what leads its state on is what the model's node may do.
-use Rattle.std.proofs.Common.{◌≡◌, inl, inr, ⊎_elim, ℕ, ◌≤◌, List, [], length, Option, Some, None, refl, sym, ap, ◌∙◌, subst}
+use Rattle.std.proofs.Common.{◌≡◌, inl, inr, ⊎_elim, ℕ, ◌≤◌, List, [], length, Option, Some, None, refl, sym, ap, ◌∙◌, subst, arith}
 use Rattle.std.specs.Prelude.{⊤}
 use Rattle.std.proofs.lemmas.List.{length-map}
-use Rattle.photon_model.proofs.Words.{Each, some_same, none_some, Setting, IsNode, node_of, Addressed, NumbersAreNodes, Note, Out, Packet, packet, IsPacket, Sent, Node, Input, Deliver, Entry, Begin, End, Stop, begun, ended, stopped, row, sends, Fits, WasSent, MayBegin, IsTurn, MayStop, Cell}
+use Rattle.photon_model.proofs.Words.{Each, some_same, Setting, IsNode, node_of, Addressed, NumbersAreNodes, Note, Out, Packet, packet, IsPacket, Sent, Node, Input, Deliver, Entry, Begin, End, Stop, begun, ended, stopped, row, sends, Fits, WasSent, MayBegin, IsTurn, MayStop, Cell}
 use Rattle.air_bus.specs.declared.entry.Input.{Input as Bytes}
 use Rattle.air_bus.specs.declared.entry.Input.TheVariants as bytes
 use Rattle.air_bus.specs.declared.entry.Entry.{Entry as BusEntry}
@@ -42,14 +42,10 @@ DoesRight g (Stops landed) = ⊤
 -- ---- inputs
 
 pub opened_none : (g : Setting) (o : Option Bytes) (x : Option Input) → OpenedAs g o x → o ≡ None → x ≡ None
-opened_none g None None a e = refl
-opened_none g None (Some i) a e = absurd a
-opened_none g (Some b) x a e = none_some b (sym e)
+opened_none g o x a e = grind arith
 
 pub opened_some : (g : Setting) (o : Option Bytes) (x : Option Input) (b : Bytes) → OpenedAs g o x → o ≡ Some b → (i : Input) × (x ≡ Some i) × Reads g b i
-opened_some g (Some d) (Some i) b a e = (i, refl, subst (λ y. Reads g y i) (some_same d b e) a)
-opened_some g (Some d) None b a e = absurd a
-opened_some g None x b a e = none_some b e
+opened_some g o x b a e = grind arith
 
 -- bytes are read as one input
 pub one_reading : OneSpelling → (g : Setting) (b : Bytes) (i j : Input) → Reads g b i → Reads g b j → i ≡ j
@@ -59,8 +55,7 @@ one_reading one g _ i j p q = p ∙ sym q
 
 -- its sender is a node of the setting
 comes_right : (g : Setting) → NumbersAreNodes g → (b : Bytes) (i : Input) → Reads g b i → ComesRight g i
-comes_right g numbers (bytes.Packet from b) i r = subst (ComesRight g) (sym r.5) (numbers.back from r.0 r.2).1
-comes_right g numbers _ i r = subst (ComesRight g) (sym r) tt
+comes_right g numbers b i r = grind arith
 
 fits : {L : Type 0} (g : Setting) (live : Option L) (b : Bytes) (i : Input) → MayTake live b → Reads g b i → Fits live i
 fits {L} g None bytes.Start i m r = subst (λ j. Fits {L = L} None j) (sym r) tt
@@ -106,11 +101,7 @@ module _ {K L : Type 0} (rows : Rows K L) (g : Setting) where
     pub state : state_at (done c deed) begun_with ≡ t
 
   pub row_is : (c : Cell K L) (i : Input) → c.opened ≡ Some i → model_row c ≡ row_of rows g c.kept c.live i
-  row_is c i e = ap (λ o. row rows.start (rows.turn g) c.kept c.live o) e ∙ by c.live
-    where
-      by : (l : Option L) → row rows.start (rows.turn g) c.kept l (Some i) ≡ row_of rows g c.kept l i
-      by None = refl
-      by (Some l) = refl
+  row_is c i e = grind arith
 
   module _ (n : Node) (sent : List Sent) (c : Cell K L) (o : Option Bytes) (as_ : OpenedAs g o c.opened) (t : State K L) where
     begins : (m : ℕ) → node_of g m ≡ Some n → (b : Bytes) (i : Input) → Reads g b i → WasSent sent n i → Leads rows (state_at c o) (bus.Begin m b) t → Stepped n sent c (bus.Begin m b) t

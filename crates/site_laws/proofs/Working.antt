@@ -1,5 +1,5 @@
 -- Which bytes keep a sound store, worked out.
-use Rattle.std.proofs.Common.{◌≡◌, ◌≢◌, inr, ℕ, [], ◌∷◌, length, Option, Some, None, Result, Ok, refl, sym, ◌∙◌, ap, subst, lit<, lit≤, arith}
+use Rattle.std.proofs.Common.{◌≡◌, ◌≢◌, inr, ℕ, [], ◌∷◌, Option, Some, None, Result, Ok, refl, sym, ◌∙◌, ap, subst, lit<, lit≤, arith}
 use Rattle.outside.specs.declared.store.DiskName.{DiskName}
 use Rattle.outside.specs.declared.store.DiskName.TheVariants as name
 use Rattle.gate_journal.specs.Gate.{gate_rule, records, StandsFor}
@@ -25,10 +25,7 @@ abbrev just : Bytes → Images
 just b disk c = c ≡ b disk
 
 is_table : IsTable worked.table
-is_table = record {
-  some = lit≤ tt;
-  begins = record { few = lit≤ tt; zero = refl; rising = tt; each = (record { start = lit< tt; some = lit≤ tt; few = lit≤ tt }, tt) };
-}
+is_table = grind arith
 
 keeps_topology : (joiners : ℕ) → journal.HasJoiners (journal.topology_of joiners worked.table) → StandsFor (journal.topology_record (journal.topology_of joiners worked.table) ∷ []) (topology_alone joiners name.Topology)
     → KeepsTopology (Some (record { joiners = joiners; table = worked.table })) (topology_alone joiners name.Topology)
@@ -67,19 +64,13 @@ module _ (whole : (g : Setting) → WholeSound g empty_store) (first : TopologyC
   row_sound = alone_sound (with_row worked a_row) row_behind keeps_longer no_others
 
   no_row : KeepSound (with_row worked a_row) (topology_alone 1) → ⊥
-  no_row x =
-      let same : topology_of worked ≡ topology_of (with_row worked a_row) = fits (with_row worked a_row) (topology_alone 1) (topology_of worked) x (keeps_topology 1 (record { some = lit≤ tt; few = lit≤ tt }) refl) in
-      absurd (omega (arith, ap (λ (t : Topology). length t.table) same))
+  no_row x = grind arith
 
   another_row : KeepSound worked row_behind → ⊥
-  another_row x =
-      let same : topology_of (with_row worked a_row) ≡ topology_of worked = fits worked row_behind (topology_of (with_row worked a_row)) x keeps_longer in
-      absurd (omega (arith, ap (λ (t : Topology). length t.table) same))
+  another_row x = grind arith
 
   other_topology : KeepSound worked (topology_alone 2) → ⊥
-  other_topology x =
-      let same : record { joiners = 2; table = worked.table } ≡ topology_of worked = fits worked (topology_alone 2) (record { joiners = 2; table = worked.table }) x (keeps_topology 2 (record { some = lit≤ tt; few = lit≤ tt }) refl) in
-      absurd (cc (ap (λ (t : Topology). t.joiners) same))
+  other_topology x = grind arith
 
   has_pair : records (pair_alone (name.Output 0 0)) ≡ record_of a_pair ∷ []
   has_pair = refl

@@ -1,8 +1,8 @@
 -- The logs of the worked turns hold the records of the worked setting.
-use Rattle.std.proofs.Common.{◌≡◌, [], ◌∷◌, ◌++◌, refl, sym, ◌∙◌, lit<, lit≤}
+use Rattle.std.proofs.Common.{◌≡◌, [], ◌∷◌, ◌++◌, refl, sym, lit<, lit≤, arith}
 use Rattle.std.specs.Prelude.{Contains}
 use Rattle.std.specs.Fmt.{digits}
-use Rattle.std.proofs.lemmas.List.Elements.{All-from_recursion, All-contains}
+use Rattle.std.proofs.lemmas.List.Elements.{All-from_recursion}
 use Rattle.event_id.specs.EventId.{spell, dotted}
 use Rattle.log_records.specs.Text.{IsPrintable}
 use Rattle.log_records.specs.Line.{query_line, click_line, IsQuery, IsClick}
@@ -28,10 +28,7 @@ is_click = record { id = record { ip = lit< tt; pid = lit< tt; micros = lit< tt 
 
 -- the elements of a list of one are one
 one : {A : Type 0} (x y z : A) → Contains (x ∷ []) y → Contains (x ∷ []) z → y ≡ z
-one {A} x y z a b = is y a ∙ sym (is z b)
-  where
-    is : (w : A) → Contains (x ∷ []) w → w ≡ x
-    is w c = All-contains (λ v. v ≡ x) (x ∷ []) w (All-from_recursion (λ v. v ≡ x) (x ∷ []) (refl, tt)) c
+one {A} x y z a b = grind arith
 
 click_end : placed 0 (one_click ∷ []) ≡ one_line ∷ []
 unfolding spell dotted digits

@@ -50,16 +50,10 @@ whole f n state e h applied front = subst (λ (vs : List Batch). Knows state vs)
 -- ---- ids
 
 pub has_start : (f : ℕ → Option Batch) (ids : Ids) → HasAt f 0 ids ids
-has_start f ids = record { applied = []; count = refl; each = none_yet f; known = λ i. or_nothing (contains id_cmp ids i) }
-  where
-    or_nothing : (t : Bool) → t ≡ (t || false)
-    or_nothing true = refl
-    or_nothing false = refl
+has_start f ids = grind arith
 
 either : {A : Type 0} (t : Bool) (a b : Option A) → ((t || is_some a) || is_some b) ≡ (t || is_some (or_else a b))
-either true a b = refl
-either false None b = refl
-either false (Some x) b = refl
+either t a b = grind arith
 
 pub has_next : (f : ℕ → Option Batch) (n : ℕ) (first old new : Ids) (v : Batch) → f n ≡ Some v → ((i : EventId) → contains id_cmp new i ≡ (contains id_cmp old i || is_some (first_in v.inserts i))) → HasAt f n first old → HasAt f (n + 1) first new
 has_next f n first old new v e k h = record {
@@ -75,13 +69,11 @@ has_whole f n first ids e h applied front = subst (λ (vs : List Batch). (i : Ev
 -- ---- the last slot
 
 pub ended : (f : ℕ → Option Batch) (n : ℕ) (old new : TimedRegistry) (m : Bool) → OnTrue m (IsAt f n old → IsAt f (n + 1) new) → OnFalse m (IsAt f n old → IsWhole f new) → f (n + 1) ≡ None → IsAt f n old → IsWhole f new
-ended f n old new true next stop e h = whole f (n + 1) new e (next h)
-ended f n old new false next stop e h = stop h
+ended f n old new m next stop e h = grind (arith, whole)
 
 pub has_ended : (f : ℕ → Option Batch) (n : ℕ) (first old new : Ids) (m : Bool) → OnTrue m ((first : Ids) → HasAt f n first old → HasAt f (n + 1) first new) → OnFalse m ((first : Ids) → HasAt f n first old → HasWhole f first new) → f (n + 1) ≡ None → HasAt f n first old → HasWhole f first new
 has_ended f n first old new true next stop e h = has_whole f (n + 1) first new e (next first h)
 has_ended f n first old new false next stop e h = stop first h
 
 pub either_way : (new old more : Bool) → new ≡ (old || more) → old ≡ true → new ≡ true
-either_way new true more e h = e
-either_way new false more e h = absurd (cc)
+either_way new old more e h = grind arith

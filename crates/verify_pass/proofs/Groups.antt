@@ -1,7 +1,7 @@
 -- What is picked of a place's group is what is chosen there.
-use Rattle.std.proofs.Common.{◌≡◌, ℕ, zero, suc, ◌+◌, ◌*◌, ◌<◌, ◌≤◌, ◌==◌, List, [], ◌∷◌, ◌++◌, length, get_or, map, Bool, true, false, cond, ◌&&◌, ◌||◌, nat_lt, Option, Some, None, refl, sym, ap, ◌∙◌, append_assoc, arith}
+use Rattle.std.proofs.Common.{◌≡◌, ℕ, zero, suc, ◌+◌, ◌*◌, ◌<◌, ◌≤◌, ◌==◌, List, [], ◌∷◌, ◌++◌, length, get_or, map, Bool, true, false, cond, ◌&&◌, ◌||◌, nat_lt, Option, Some, refl, sym, ap, ◌∙◌, append_assoc, arith}
 use Rattle.std.specs.Prelude.{filter, option_map, unwrap_or, Vec}
-use Rattle.verify_pass.proofs.Words.{list_any, lookup, length-map, map-append, append-nil, map-map, list_any-append, nat_tests, eq-eqb, Ballot, marked, Place, Note, Vote, is_place, promise, acceptance, vote_at, votes_at, place_true, acceptance_of, accepted_in, is_acceptance, did_accept, is_chosen, all_accepted, least, lower, chosen, Batch, same_batch, note_view, place_of, ReplicaNote, Promised, Accepted, Acceptance, value_of, cast_of, did_replica, marks, is_most, accepts, casts, casts_from, batch_in, items_of}
+use Rattle.verify_pass.proofs.Words.{list_any, lookup, length-map, map-append, append-nil, map-map, list_any-append, nat_tests, eq-eqb, Ballot, marked, Place, Note, is_place, is_acceptance, did_accept, is_chosen, all_accepted, least, lower, chosen, Batch, same_batch, note_view, place_of, ReplicaNote, Promised, Accepted, Acceptance, value_of, cast_of, did_replica, marks, is_most, accepts, casts, casts_from, batch_in, items_of}
 
 abbrev Value : Type 0
 Value = Ballot × Batch
@@ -42,8 +42,7 @@ none_behind a p (notes ∷ js) r q lt =
     ∙ (λ i. any_others r q a (accepts notes p) (apart q r lt) i || none_behind a p js (suc r) q (omega (arith, lt)) i)
 
 or_false : (t : Bool) → (t || false) ≡ t
-or_false true = refl
-or_false false = refl
+or_false t = grind arith
 
 any_at : (a : Value) (p : Place) (js : List (List ReplicaNote)) (r k : ℕ) → list_any (is_own (r + k) a) (casts_from r js p) ≡ list_any (is_acceptance same_batch a) (accepts (get_or js k []) p)
 any_at a p [] r k = refl
@@ -98,82 +97,43 @@ module _ (js : List (List ReplicaNote)) (p : Place) (group : List Acceptance) (i
 
 -- ---- one note more, and one replica's notes more
 
-accepted_append : (us vs : List (Vote Batch)) → accepted_in (us ++ vs) ≡ accepted_in us ++ accepted_in vs
-accepted_append [] vs = refl
-accepted_append (u ∷ us) vs = ap (λ ws. acceptance_of u.ballot u.value ++ ws) (accepted_append us vs) ∙ sym (append_assoc (acceptance_of u.ballot u.value) (accepted_in us) (accepted_in vs))
-
-accepts_first : (note : ReplicaNote) (notes : List ReplicaNote) (p : Place) → accepts (note ∷ notes) p ≡ accepts (note ∷ []) p ++ accepts notes p
-accepts_first note notes p =
-    let own = vote_at p (note_view note) in
-    accepted_append own (votes_at p (map note_view notes)) ∙ ap (λ us. accepted_in us ++ accepts notes p) (sym (append-nil own))
-
 accepts_push : (notes : List ReplicaNote) (note : ReplicaNote) (p : Place) → accepts (notes ++ note ∷ []) p ≡ accepts notes p ++ accepts (note ∷ []) p
 accepts_push [] note p = refl
-accepts_push (first ∷ notes) note p =
-    accepts_first first (notes ++ note ∷ []) p
-    ∙ ap (λ vs. accepts (first ∷ []) p ++ vs) (accepts_push notes note p)
-    ∙ sym (append_assoc (accepts (first ∷ []) p) (accepts notes p) (accepts (note ∷ []) p))
-    ∙ ap (λ vs. vs ++ accepts (note ∷ []) p) (sym (accepts_first first notes p))
+accepts_push (first ∷ notes) note p = grind (arith, accepts_push notes note p)
 
 pub notes_push : (r : ℕ) (notes : List ReplicaNote) (note : ReplicaNote) (p : Place) → casts r (notes ++ note ∷ []) p ≡ casts r notes p ++ casts r (note ∷ []) p
 notes_push r notes note p = ap (map (λ a. (r, a))) (accepts_push notes note p) ∙ map-append (λ a. (r, a)) (accepts notes p) (accepts (note ∷ []) p)
 
 pub casts_push : (r : ℕ) (js : List (List ReplicaNote)) (notes : List ReplicaNote) (p : Place) → casts_from r (js ++ notes ∷ []) p ≡ casts_from r js p ++ casts (r + length js) notes p
 casts_push r [] notes p = let here : r ≡ r + 0 = omega arith in append-nil (casts r notes p) ∙ ap (λ (q : ℕ). casts q notes p) here
-casts_push r (first ∷ js) notes p =
-    let there : suc r + length js ≡ r + suc (length js) = omega arith in
-    ap (λ cs. casts r first p ++ cs) (casts_push (suc r) js notes p)
-    ∙ sym (append_assoc (casts r first p) (casts_from (suc r) js p) (casts (suc r + length js) notes p))
-    ∙ ap (λ (q : ℕ). casts_from r (first ∷ js) p ++ casts q notes p) there
+casts_push r (first ∷ js) notes p = grind (arith, append_assoc, casts_push (suc r) js notes p)
 
 -- a promise is no acceptance
 pub promised_none : (r shard slot : ℕ) (b : Ballot) (p : Place) → casts r (Promised shard slot b ∷ []) p ≡ []
-promised_none r shard slot b p = go (is_place (place_of shard slot) p)
-  where
-    go : (t : Bool) → map {B = ℕ × Value} (λ (a : Value). (r, a)) (accepted_in (cond t (promise b ∷ []) [] ++ [])) ≡ []
-    go true = refl
-    go false = refl
+promised_none r shard slot b p = grind arith
 
 pub accepted_one : (r shard slot : ℕ) (b : Ballot) (v : Batch) (p : Place) → casts r (Accepted shard slot b v ∷ []) p ≡ cond (is_place (place_of shard slot) p) ((r, (b, v)) ∷ []) []
-accepted_one r shard slot b v p = go (is_place (place_of shard slot) p)
-  where
-    go : (t : Bool) → map {B = ℕ × Value} (λ (a : Value). (r, a)) (accepted_in (cond t (acceptance b v ∷ []) [] ++ [])) ≡ cond t ((r, (b, v)) ∷ []) []
-    go true = refl
-    go false = refl
+accepted_one r shard slot b v p = grind arith
 
 -- the group with an acceptance more, if it is of this place
 pub group_push : (old : List Acceptance) (x : Acceptance) (t : Bool) → map cast_of (old ++ cond t (x ∷ []) []) ≡ map cast_of old ++ cond t (cast_of x ∷ []) []
-group_push old x true = map-append cast_of old (x ∷ [])
-group_push old x false = map-append cast_of old []
+group_push old x t = grind (arith, map-append)
 
 -- ---- going through a group from its end
 
 -- one acceptance more in front
 pub least_next : (f : Value → Bool) (x : Value) (xs : List Value) (o new : Option Value) → o ≡ least same_batch (filter f xs) → new ≡ cond (f x) (lower same_batch x o) o → new ≡ least same_batch (filter f (x ∷ xs))
-least_next f x xs o new e k = k ∙ ap (λ (z : Option Value). cond (f x) (lower same_batch x z) z) e ∙ go (f x)
-  where
-    go : (t : Bool) → cond t (lower same_batch x (least same_batch (filter f xs))) (least same_batch (filter f xs)) ≡ least same_batch (cond t (x ∷ filter f xs) (filter f xs))
-    go true = refl
-    go false = refl
+least_next f x xs o new e k = grind arith
 
 -- ---- an acceptance more in a map of groups
 
 pub joined : {Z : Type 0} (was held : List (Place × Vec Acceptance Z)) (place : Place) (before : List Acceptance) (v : Vec Acceptance Z) (x : Acceptance) → before ≡ items_of (lookup (is_place place) was) → v.items ≡ before ++ x ∷ [] → ((p : Place) → lookup (is_place p) held ≡ cond (is_place place p) (Some v) (lookup (is_place p) was)) → (p : Place) → items_of (lookup (is_place p) held) ≡ items_of (lookup (is_place p) was) ++ cond (is_place place p) (x ∷ []) []
-joined {Z} was held place before v x old new f p = ap items_of (f p) ∙ go (is_place place p) refl
-  where
-    go : (t : Bool) → is_place place p ≡ t → items_of (cond t (Some v) (lookup (is_place p) was)) ≡ items_of (lookup (is_place p) was) ++ cond t (x ∷ []) []
-    go true e = new ∙ ap (λ xs. xs ++ x ∷ []) (old ∙ ap (λ (q : Place). items_of (lookup (is_place q) was)) (place_true place p e))
-    go false e = sym (append-nil (items_of (lookup (is_place p) was)))
+joined {Z} was held place before v x old new f p = grind (arith, append-nil)
 
 -- the group of an entry, or a new one
 pub found : {Z : Type 0} (o : Option (Vec Acceptance Z)) (new v : Vec Acceptance Z) → v ≡ unwrap_or o new → new.items ≡ [] → v.items ≡ items_of o
-found {Z} None new v e none = ap (λ (w : Vec Acceptance Z). w.items) e ∙ none
-found {Z} (Some held) new v e none = ap (λ (w : Vec Acceptance Z). w.items) e
+found {Z} o new v e none = grind arith
 
 -- the greatest slot stays an end
 pub ends_keep : (was now : Place → List Acceptance) (last most : ℕ) (q : Place) (x : Acceptance) → ((p : Place) → now p ≡ was p ++ cond (is_place q p) (x ∷ []) []) → last ≤ most → q.slot ≤ most → ((p : Place) → last < p.slot → was p ≡ []) → (p : Place) → most < p.slot → now p ≡ []
-ends_keep was now last most q x e le here h p lt = go (is_place q p) refl (e p)
-  where
-    go : (t : Bool) → is_place q p ≡ t → now p ≡ was p ++ cond t (x ∷ []) [] → now p ≡ []
-    go true is k = let slot : q.slot ≡ p.slot = ap (λ (z : Place). z.slot) (place_true q p is) in absurd (omega (arith, slot))
-    go false is k = k ∙ append-nil (was p) ∙ h p (omega arith)
+ends_keep was now last most q x e le here h p lt = grind arith

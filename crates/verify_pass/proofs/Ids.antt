@@ -1,9 +1,9 @@
 -- The ids of clicks.
-use Rattle.std.proofs.Common.{◌≡◌, ℕ, suc, ◌+◌, ◌-◌, List, [], ◌∷◌, ◌++◌, Bool, true, false, cond, ◌||◌, map, Option, Some, None, is_some, length, get_or, drop, drop-cons, refl, sym, ap, ◌∙◌, subst, arith}
+use Rattle.std.proofs.Common.{◌≡◌, ℕ, suc, ◌+◌, ◌-◌, List, [], ◌∷◌, ◌++◌, Bool, true, false, cond, ◌||◌, map, Some, None, is_some, length, get_or, drop, drop-cons, refl, sym, ap, ◌∙◌, subst, arith}
 use Rattle.std.specs.FinMap as finite
 use Rattle.event_id.proofs.Order.{ids_total, exact_ids}
 use Rattle.log_records.proofs.Distinct.{made, made_nil, made_cons}
-use Rattle.verify_pass.proofs.Words.{Ordering, Less, Equal, Greater, insert_key, match_ordering, is_eq, by_order, tied_itself, map-map, EventId, id_cmp, same_id, Insert, Token, or_else, first_in, same_id-true, same_id-false, ClickRec, distinct, in_order}
+use Rattle.verify_pass.proofs.Words.{Ordering, Equal, insert_key, is_eq, tied_itself, map-map, EventId, id_cmp, same_id, Insert, or_else, first_in, same_id-true, same_id-false, ClickRec, distinct, in_order}
 
 abbrev Entry : Type 0
 Entry = EventId × ClickRec
@@ -14,35 +14,11 @@ Own es = map (λ (e : Entry). e.1.id) es ≡ map (λ (e : Entry). e.0) es
 
 keys_put : (es : List Entry) (k : EventId) (v : ClickRec) → map (λ (e : Entry). e.0) (finite.put id_cmp k v es) ≡ insert_key id_cmp (map (λ (e : Entry). e.0) es) k
 keys_put [] k v = refl
-keys_put (e ∷ es) k v = go (id_cmp k e.0) (keys_put es k v)
-  where
-    go : (o : Ordering) → map (λ (d : Entry). d.0) (finite.put id_cmp k v es) ≡ insert_key id_cmp (map (λ (d : Entry). d.0) es) k → map (λ (d : Entry). d.0) (by_order o ((k, v) ∷ e ∷ es) ((e.0, v) ∷ es) (e ∷ finite.put id_cmp k v es)) ≡ match_ordering o (k ∷ e.0 ∷ map (λ (d : Entry). d.0) es) (e.0 ∷ map (λ (d : Entry). d.0) es) (e.0 ∷ insert_key id_cmp (map (λ (d : Entry). d.0) es) k)
-    go Less h = refl
-    go Equal h = refl
-    go Greater h = ap (λ l. e.0 ∷ l) h
+keys_put (e ∷ es) k v = grind (arith, keys_put es k v)
 
 own_put : (es : List Entry) (c : ClickRec) → ((e : Entry) → id_cmp c.id e.0 ≡ Equal → c.id ≡ e.0) → Own es → Own (finite.put id_cmp c.id c es)
 own_put [] c exact h = refl
-own_put (e ∷ es) c exact h = go (id_cmp c.id e.0) refl (own_put es c exact tail_)
-  where
-    tail_ : Own es
-    tail_ = ap (λ (l : List EventId). rest l) h
-      where
-        rest : List EventId → List EventId
-        rest [] = []
-        rest (x ∷ xs) = xs
-
-    go : (o : Ordering) → id_cmp c.id e.0 ≡ o → Own (finite.put id_cmp c.id c es) → Own (by_order o ((c.id, c) ∷ e ∷ es) ((e.0, c) ∷ es) (e ∷ finite.put id_cmp c.id c es))
-    go Less is k = ap (λ (l : List EventId). c.id ∷ l) h
-    go Equal is k = λ i. exact e is i ∷ tail_ i
-    go Greater is k = λ i. head_ i ∷ k i
-      where
-        first : List EventId → EventId
-        first [] = e.1.id
-        first (x ∷ xs) = x
-
-        head_ : e.1.id ≡ e.0
-        head_ = ap first h
+own_put (e ∷ es) c exact h = grind (arith, own_put es c exact)
 
 own_made : (cs : List ClickRec) → Own (made cs)
 own_made [] = subst Own (sym made_nil) refl
@@ -76,9 +52,7 @@ pub tied : (a b : EventId) → same_id a b ≡ is_eq (id_cmp a b)
 tied a b = go (same_id a b) refl
   where
     apart : (o : Ordering) → id_cmp a b ≡ o → (a ≡ b → ⊥) → false ≡ is_eq o
-    apart Equal e k = absurd (k (exact_ids a b e))
-    apart Less e k = refl
-    apart Greater e k = refl
+    apart o e k = grind arith
 
     go : (t : Bool) → same_id a b ≡ t → t ≡ is_eq (id_cmp a b)
     go true e = subst (λ (z : EventId). true ≡ is_eq (id_cmp a z)) (same_id-true a b e) (sym (ap is_eq (tied_itself ids_total a)))
@@ -86,26 +60,10 @@ tied a b = go (same_id a b) refl
 
 first_in_push : (xs : List Insert) (x : Insert) (i : EventId) → first_in (xs ++ x ∷ []) i ≡ or_else (first_in xs i) (cond (same_id x.id i) (Some x.token) None)
 first_in_push [] x i = refl
-first_in_push (y ∷ xs) x i = go (same_id y.id i) (first_in_push xs x i)
-  where
-    go : (t : Bool) → first_in (xs ++ x ∷ []) i ≡ or_else (first_in xs i) (cond (same_id x.id i) (Some x.token) None) → cond t (Some y.token) (first_in (xs ++ x ∷ []) i) ≡ or_else (cond t (Some y.token) (first_in xs i)) (cond (same_id x.id i) (Some x.token) None)
-    go true e = refl
-    go false e = e
-
-add_step : {A : Type 0} (t f : Bool) (l : Option A) (s : A) → cond t true (f || is_some l) ≡ (f || is_some (or_else l (cond t (Some s) None)))
-add_step true true l s = refl
-add_step true false None s = refl
-add_step true false (Some x) s = refl
-add_step false f None s = refl
-add_step false f (Some x) s = refl
+first_in_push (y ∷ xs) x i = grind (arith, first_in_push xs x i)
 
 pub add_push : (had old new : Bool) (xs : List Insert) (x : Insert) (i : EventId) → old ≡ (had || is_some (first_in xs i)) → new ≡ cond (is_eq (id_cmp x.id i)) true old → new ≡ (had || is_some (first_in (xs ++ x ∷ []) i))
-add_push had old new xs x i e k =
-    k
-    ∙ ap (λ (t : Bool). cond (is_eq (id_cmp x.id i)) true t) e
-    ∙ ap (λ (t : Bool). cond t true (had || is_some (first_in xs i))) (sym (tied x.id i))
-    ∙ add_step (same_id x.id i) had (first_in xs i) x.token
-    ∙ ap (λ (o : Option Token). had || is_some o) (sym (first_in_push xs x i))
+add_push had old new xs x i e k = grind (arith, first_in_push)
 
 -- ---- from the end
 

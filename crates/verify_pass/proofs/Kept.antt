@@ -1,15 +1,11 @@
 -- A list from which some elements are left out.
-use Rattle.std.proofs.Common.{◌≡◌, ◌<◌, ℕ, zero, suc, List, [], ◌∷◌, length, get_or, Bool, true, false, cond, sym, ap, ◌∙◌, subst, arith}
+use Rattle.std.proofs.Common.{◌≡◌, ◌<◌, ℕ, zero, suc, List, [], ◌∷◌, length, get_or, Bool, true, false, cond, sym, subst, arith}
 use Rattle.std.specs.Prelude.{filter, Contains}
-use Rattle.verify_pass.proofs.Words.{true≢false, All-contains, filter_passes}
+use Rattle.verify_pass.proofs.Words.{All-contains, filter_passes}
 
 kept : {A : Type 0} (f : A → Bool) (xs : List A) (x : A) (k : ℕ) → k < length xs → get_or xs k x ≡ x → f x ≡ true → Contains (filter f xs) x
 kept f [] x k lt e t = absurd (omega (arith, lt))
-kept {A} f (y ∷ xs) x zero lt e t = go (f y) (ap f e ∙ t)
-  where
-    go : (s : Bool) → s ≡ true → Contains (cond s (y ∷ filter f xs) (filter f xs)) x
-    go true k = (0, omega arith, e)
-    go false k = absurd (true≢false (sym k))
+kept {A} f (y ∷ xs) x zero lt e t = grind arith
 kept {A} f (y ∷ xs) x (suc k) lt e t = go (f y) (kept f xs x k (omega (arith, lt)) e t)
   where
     go : (s : Bool) → Contains (filter f xs) x → Contains (cond s (y ∷ filter f xs) (filter f xs)) x

@@ -1,7 +1,7 @@
 -- What forbids a start, batch by batch.
 use Rattle.std.proofs.Common.{◌≡◌, ⊎_elim, ℕ, ◌<◌, ◌≤◌, Bool, List, [], ◌∷◌, ◌++◌, map, Option, Some, None, refl, sym, ◌∙◌, ap, arith, lt-ltb}
 use Rattle.std.specs.Prelude.{max, if◌then◌else◌}
-use Rattle.verify_pass.proofs.Words.{option_map, flat_map, fold, flat_map-append, append-nil, map-append, cases_lt, le-ltb, fold-append, Each, each_at, each_from, each_append, mem_left, mem_right, Note, note_view, ReplicaNote, EventId, Insert, Batch, bound_of, Latest, TooSoon, Bound, Id, all_batches, batches_in, batches_of, inserts_of, lesser, least_with, least_from, too_soon_for, taken, IsEarlier, IsBefore}
+use Rattle.verify_pass.proofs.Words.{option_map, flat_map, fold, flat_map-append, map-append, cases_lt, le-ltb, fold-append, Each, each_at, each_from, each_append, mem_left, mem_right, Note, note_view, ReplicaNote, EventId, Insert, Batch, bound_of, Latest, TooSoon, Bound, Id, all_batches, batches_in, batches_of, inserts_of, lesser, least_with, least_from, too_soon_for, taken, IsEarlier, IsBefore}
 
 abbrev pub latest : ℕ → Option EventId → Latest
 latest bound id = record { bound = bound; id = id }
@@ -16,10 +16,7 @@ taken_all start l (v ∷ vs) =
 
 -- what is found with the batches of one thing more
 fold_more : {X : Type 0} (f : X → List Batch) (start : ℕ) (l : Latest) (xs : List X) (x : X) → fold (taken start) (fold (taken start) l (flat_map f xs)) (f x) ≡ fold (taken start) l (flat_map f (xs ++ x ∷ []))
-fold_more f start l xs x =
-    sym (fold-append (taken start) l (flat_map f xs) (f x))
-    ∙ ap (λ (vs : List Batch). fold (taken start) l (flat_map f xs ++ vs)) (sym (append-nil (f x)))
-    ∙ ap (fold (taken start) l) (sym (flat_map-append f xs (x ∷ [])))
+fold_more f start l xs x = grind (arith, fold-append, flat_map-append)
 
 pub notes_more : (start : ℕ) (l : Latest) (ns : List ReplicaNote) (n : ReplicaNote)
     → fold (taken start) (fold (taken start) l (batches_in (map note_view ns))) (batches_of (note_view n)) ≡ fold (taken start) l (batches_in (map note_view (ns ++ n ∷ [])))
@@ -46,8 +43,7 @@ stays start i (x ∷ xs) e =
 
 none_each : (start : ℕ) (xs : List Insert) → least_from start None xs ≡ None → Each (IsEarlier start) xs
 none_each start [] e = tt
-none_each start (x ∷ xs) e =
-    ⊎_elim (λ lt. (lt, none_each start xs (sym (passes start None x xs lt) ∙ e))) (λ le. absurd (stays start (lesser None x.id) xs (sym (takes start None x xs le) ∙ e))) (cases_lt x.id.micros start)
+none_each start (x ∷ xs) e = grind (arith, stays, takes, none_each start xs)
 
 each_none : (start : ℕ) (xs : List Insert) → Each (IsEarlier start) xs → least_from start None xs ≡ None
 each_none start [] h = refl
@@ -55,37 +51,21 @@ each_none start (x ∷ xs) h = passes start None x xs h.0 ∙ each_none start xs
 
 each_before : (start : ℕ) (vs : List Batch) → bound_of vs ≤ start → Each (IsEarlier start) (inserts_of vs) → Each (IsBefore start) vs
 each_before start [] b h = tt
-each_before start (v ∷ vs) b h =
-    let own = each_from (IsEarlier start) v.inserts (λ x m. each_at (IsEarlier start) (v.inserts ++ inserts_of vs) h x (mem_left x v.inserts (inserts_of vs) m)) in
-    let others = each_from (IsEarlier start) (inserts_of vs) (λ x m. each_at (IsEarlier start) (v.inserts ++ inserts_of vs) h x (mem_right x v.inserts (inserts_of vs) m)) in
-    ((omega arith, own), each_before start vs (omega arith) others)
+each_before start (v ∷ vs) b h = grind (arith, each_from, each_at, mem_left, mem_right, each_before start vs)
 
 before_each : (start : ℕ) (vs : List Batch) → Each (IsBefore start) vs → (bound_of vs ≤ start) × Each (IsEarlier start) (inserts_of vs)
 before_each start [] h = (omega arith, tt)
-before_each start (v ∷ vs) h =
-    let rest = before_each start vs h.1 in
-    let le = rest.0 in
-    let own = h.0.0 in
-    (omega arith, each_append (IsEarlier start) v.inserts (inserts_of vs) h.0.1 rest.1)
+before_each start (v ∷ vs) h = grind (arith, each_append, before_each start vs h.1)
 
 abbrev told : List Batch → ℕ → Bool → Option TooSoon
 told vs start above = if above then Some (Bound (bound_of vs)) else option_map Id (least_from start None (inserts_of vs))
 
-none_mapped : (o : Option EventId) → option_map Id o ≡ None → o ≡ None
-none_mapped None e = refl
-none_mapped (Some i) e = absurd (some_none (Id i) e)
-
 -- nothing forbids a start exactly where each bound and each insert lies before it
 pub none_before : (vs : List Batch) (start : ℕ) → too_soon_for vs start ≡ None → Each (IsBefore start) vs
-none_before vs start e =
-    ⊎_elim (λ lt. absurd (some_none (Bound (bound_of vs)) (sym (ap (told vs start) (lt-ltb start (bound_of vs) lt)) ∙ e)))
-    (λ le. each_before start vs le (none_each start (inserts_of vs) (none_mapped (least_from start None (inserts_of vs)) (sym (ap (told vs start) (le-ltb start (bound_of vs) le)) ∙ e))))
-    (cases_lt start (bound_of vs))
+none_before vs start e = grind (arith, each_before, none_each, le-ltb, cases_lt)
 
 pub before_none : (vs : List Batch) (start : ℕ) → Each (IsBefore start) vs → too_soon_for vs start ≡ None
-before_none vs start h =
-    let parts = before_each start vs h in
-    ap (told vs start) (le-ltb start (bound_of vs) parts.0) ∙ ap (option_map Id) (each_none start (inserts_of vs) parts.1)
+before_none vs start h = grind (arith, before_each, each_none)
 
 -- what is found of all batches is told
 module _ (vs : List Batch) (start : ℕ) (l : Latest) (is : l ≡ fold (taken start) (latest 0 None) vs) where
