@@ -1,7 +1,7 @@
 -- What a queue's parcels do when one is put, ripens or is taken.
 use Rattle.std.proofs.Common.{◌≡◌, ◌⊎◌, ⊎_elim, inl, inr, ℕ, ◌+◌, ◌-◌, ◌<◌, ◌≤◌, ◌==◌, ◌&&◌, ◌||◌, Bool, true, false, cond, List, [], ◌∷◌, ◌++◌, ◌↔◌, length, get_or, map, Some, None, refl, sym, ap, ◌∙◌, subst, arith}
 use Rattle.std.specs.Prelude.{Option, IsSome, IfSome, option_map, nat_le, nat_lt, sum_by}
-use Rattle.air_bus.proofs.Words.{All, Ordering, Less, Equal, Greater, Bor, nat_cmp, on, flip_args, then_cmp, ordering_then, is_lt, IsUpperBound, All-from_recursion, bytes_eq, true≢false, leb-true, ltb-true, ltb-false, le-leb, lt-ltb, eqb-true, eqb-false, eq-eqb, cases_lt, and_parts, and_from, or_left, or_right, or_cases, bytes_eq-Decides, map-append, length-map, sum_by-append, sum_by-cons, sum_by-le, get_or-le-sum_by, Each, EachPair, each_append, each_more, pairs_push, Parcel, Copy, next_copy, left_by, sooner, copy_at, AreTogether, Stands}
+use Rattle.air_bus.proofs.Words.{All, Ordering, Bor, nat_cmp, on, flip_args, then_cmp, is_lt, IsUpperBound, All-from_recursion, bytes_eq, true≢false, leb-true, ltb-true, le-leb, lt-ltb, eq-eqb, cases_lt, and_from, or_left, or_right, or_cases, bytes_eq-Decides, map-append, length-map, sum_by-append, sum_by-cons, sum_by-le, get_or-le-sum_by, Each, EachPair, each_append, each_more, pairs_push, Parcel, Copy, next_copy, left_by, sooner, copy_at, AreTogether, Stands}
 use Rattle.air_bus.proofs.Least.{next_is, left_is}
 
 -- the order of a heap: what is due later is less, and so is what arrived later
@@ -30,9 +30,7 @@ pairs_without R [] x after e = e.1
 pairs_without R (b ∷ before) x after e = (each_without (λ y. R b y) before x after e.0, pairs_without R before x after e.1)
 
 each_replaced : {A : Type 0} (P : A → Type 0) (before : List A) (x y : A) (after : List A) → (P x → P y) → Each P (before ++ x ∷ after) → Each P (before ++ y ∷ after)
-each_replaced P before x y after h e =
-    let r = each_right P before x after e in
-    each_append P before (y ∷ after) (each_left P before x after e) (h r.0, r.1)
+each_replaced P before x y after h e = grind (arith, each_right, each_append, each_left)
 
 pairs_replaced : {A : Type 0} (R : A → A → Type 0) (before : List A) (x y : A) (after : List A) → ((a : A) → R a x → R a y) → ((a : A) → R x a → R y a)
     → EachPair R (before ++ x ∷ after) → EachPair R (before ++ y ∷ after)
@@ -40,11 +38,7 @@ pairs_replaced R [] x y after l r e = (each_more (λ a. R x a) (λ a. R y a) aft
 pairs_replaced R (b ∷ before) x y after l r e = (each_replaced (λ a. R b a) before x y after (l b) e.0, pairs_replaced R before x y after l r e.1)
 
 sum_middle : {A : Type 0} (f : A → ℕ) (before : List A) (x : A) (after : List A) → sum_by f (before ++ x ∷ after) ≡ f x + sum_by f (before ++ after)
-sum_middle f before x after =
-    let one = sum_by-append f before (x ∷ after) in
-    let two = sum_by-append f before after in
-    let here = sum_by-cons f x after in
-    omega (arith, one, two, here)
+sum_middle f before x after = grind (arith, sum_by-append, sum_by-cons)
 
 map_middle : {A B : Type 0} (f : A → B) (before : List A) (x y : A) (after : List A) → f x ≡ f y → map f (before ++ x ∷ after) ≡ map f (before ++ y ∷ after)
 map_middle f before x y after is = map-append f before (x ∷ after) ∙ ap (λ z. map f before ++ z ∷ map f after) is ∙ sym (map-append f before (y ∷ after))
@@ -56,15 +50,7 @@ is_parcel x p = (p.due == x.due) && ((p.place == x.place) && ((p.from == x.from)
 
 is_parcel-true : (x p : Parcel) → is_parcel x p ≡ true → p ≡ x
 unfolding is_parcel
-is_parcel-true x p t =
-    let a = and_parts (p.due == x.due) ((p.place == x.place) && ((p.from == x.from) && bytes_eq p.bytes x.bytes)) t in
-    let b = and_parts (p.place == x.place) ((p.from == x.from) && bytes_eq p.bytes x.bytes) a.1 in
-    let c = and_parts (p.from == x.from) (bytes_eq p.bytes x.bytes) b.1 in
-    let due : p.due ≡ x.due = eqb-true p.due x.due a.0 in
-    let place : p.place ≡ x.place = eqb-true p.place x.place b.0 in
-    let from : p.from ≡ x.from = eqb-true p.from x.from c.0 in
-    let bytes : p.bytes ≡ x.bytes = (bytes_eq-Decides p.bytes x.bytes).0 c.1 in
-    λ i. record { due = due i; place = place i; from = from i; bytes = bytes i }
+is_parcel-true x p t = grind (arith, bytes_eq-Decides)
 
 is_parcel-self : (x : Parcel) → is_parcel x x ≡ true
 unfolding is_parcel
@@ -94,8 +80,7 @@ split x (p ∷ ps) h = go (λ rest. split x ps rest) (is_parcel x p) refl
 
 -- what the heaps hold stands in the list
 split_of : (ready late ps : List Parcel) (x : Parcel) → AreTogether ready late ps → ((f : Parcel → ℕ) → f x ≤ sum_by f ready + sum_by f late) → Split x ps
-split_of ready late ps x together among =
-    split x ps (omega (arith, together.each (λ (p : Parcel). hit (is_parcel x p)), among (λ (p : Parcel). hit (is_parcel x p)), ap hit (is_parcel-self x)))
+split_of ready late ps x together among = grind (arith, split, is_parcel-self)
 
 -- ---- a test of each parcel
 
@@ -112,13 +97,11 @@ each_zero t (p ∷ ps) z =
     (here, each_zero t ps (omega (arith, sum, z)))
   where
     go : (b : Bool) → t p ≡ b → miss (t p) ≡ 0 → t p ≡ true
-    go true e s = e
-    go false e s = absurd (omega (arith, s, ap miss e))
+    go b e s = grind arith
 
 each_together : (t : Parcel → Bool) (ready late ps : List Parcel) → AreTogether ready late ps → All (λ (p : Parcel). t p ≡ true) ready → All (λ (p : Parcel). t p ≡ true) late
     → Each (λ (p : Parcel). t p ≡ true) ps
-each_together t ready late ps together r l =
-    each_zero t ps (omega (arith, together.each (λ (p : Parcel). miss (t p)), sum_zero t ready r, sum_zero t late l))
+each_together t ready late ps together r l = grind (arith, each_zero, sum_zero)
 
 -- ---- what stands
 
@@ -239,9 +222,7 @@ next_stands taken next ready late copies x least s =
 
 sooner_map : (taken : ℕ) (ps : List Parcel) → map sooner (map (copy_at taken) ps) ≡ map (copy_at (taken + 1)) ps
 sooner_map taken [] = refl
-sooner_map taken (p ∷ ps) =
-    let less : p.due - taken - 1 ≡ p.due - (taken + 1) = omega arith in
-    λ i. record { delay = less i; from = p.from; bytes = p.bytes } ∷ sooner_map taken ps i
+sooner_map taken (p ∷ ps) = grind (arith, sooner_map taken ps)
 
 -- it is taken, and the clock goes on
 pub taken_stands : (taken next : ℕ) (ready late ready' late' : List Parcel) (copies : List Copy) (x : Parcel) → IsLeast taken ready late x
@@ -271,14 +252,7 @@ none_taken taken next ready late copies none s =
 
 -- what the order of a heap says of its greatest
 later_of : (x p : Parcel) → is_lt (by_due x p) ≡ false → (x.due < p.due) ⊎ ((x.due ≡ p.due) × (x.place ≤ p.place))
-later_of x p f = go (nat_lt p.due x.due) refl (p.due == x.due) refl (nat_lt p.place x.place) refl f
-  where
-    go : (a : Bool) → nat_lt p.due x.due ≡ a → (b : Bool) → (p.due == x.due) ≡ b → (d : Bool) → nat_lt p.place x.place ≡ d
-        → is_lt (ordering_then (cond a Less (cond b Equal Greater)) (cond d Less (cond (p.place == x.place) Equal Greater))) ≡ false → (x.due < p.due) ⊎ ((x.due ≡ p.due) × (x.place ≤ p.place))
-    go true ea b eb d ed e = absurd (true≢false e)
-    go false ea true eb true ed e = absurd (true≢false e)
-    go false ea true eb false ed e = inr (sym (eqb-true p.due x.due eb), ltb-false p.place x.place ed)
-    go false ea false eb d ed e = inl (omega (arith, ltb-false p.due x.due ea, eqb-false p.due x.due eb))
+later_of x p f = grind arith
 
 pub ready_least : (taken : ℕ) (ready late : List Parcel) (x : Parcel) → All (λ (p : Parcel). p.due ≡ 0) ready → All (λ (p : Parcel). taken < p.due) late
     → x.due ≡ 0 → IsUpperBound by_due x ready → ((f : Parcel → ℕ) → f x ≤ sum_by f ready) → IsLeast taken ready late x
@@ -307,9 +281,7 @@ first_each P xs x is some all = subst P (sym is) (all 0 x some)
 
 -- a late copy that is due has no delay, nor has it with the due moment 0
 pub ripe_copy : (taken : ℕ) (x : Parcel) → x.due ≤ taken → copy_at taken x ≡ copy_at taken (record x { due = 0 })
-ripe_copy taken x due =
-    let same : x.due - taken ≡ 0 - taken = omega (arith, due) in
-    λ i. record { delay = same i; from = x.from; bytes = x.bytes }
+ripe_copy taken x due = grind arith
 
 -- the one that is next, or none, of two heaps of which the first is empty
 pub late_next : (taken next : ℕ) (ready late : List Parcel) (copies : List Copy) (o : Option (Bor Parcel)) → length ready ≡ 0 → All (λ (p : Parcel). taken < p.due) late

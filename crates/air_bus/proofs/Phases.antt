@@ -1,7 +1,7 @@
 -- What one entry changes.
-use Rattle.std.proofs.Common.{◌⊎◌, inl, inr, ⊎_elim, length-append, arith, refl, ◌≡◌, ◌≢◌, ℕ, ◌+◌, ◌<◌, ◌≤◌, List, [], ◌∷◌, ◌++◌, length, get_or, set, if◌then◌else◌, sym, ap, ◌∙◌, subst, get_or-set_other, get_or-set_same, eq-eqb, ne_eqb}
+use Rattle.std.proofs.Common.{◌⊎◌, inl, inr, length-append, arith, refl, ◌≡◌, ◌≢◌, ℕ, ◌+◌, ◌<◌, ◌≤◌, List, [], ◌∷◌, ◌++◌, length, get_or, set, if◌then◌else◌, sym, ap, ◌∙◌, subst, get_or-set_other, get_or-set_same, eq-eqb, ne_eqb}
 use Rattle.std.specs.Prelude.{sum_by}
-use Rattle.air_bus.proofs.Words.{dite, ℕ_discrete, fold_push, sum_by-set, get_or-le-sum_by, Entry, Phase, Down, Idle, Busy, Kind, PlanView, open_of, MayFollow, IsAired, node_of, phase_after, phase_step, phase}
+use Rattle.air_bus.proofs.Words.{dite, ℕ_discrete, fold_push, sum_by-set, get_or-le-sum_by, Entry, Phase, Down, Busy, Kind, PlanView, open_of, MayFollow, IsAired, node_of, phase_after, phase_step, phase}
 
 pub phase_here : (h : List Entry) (e : Entry) (n : ℕ) → node_of e ≡ n → phase n (h ++ e ∷ []) ≡ phase_after e
 phase_here h e n is = fold_push (phase_step n) Down h e ∙ ap (λ b. if b then phase_after e else phase n h) (eq-eqb _ _ is)
@@ -24,26 +24,16 @@ split_last : (h before after : List Entry) (l e : Entry) → h ++ l ∷ [] ≡ b
 split_last [] [] after l e is = inl (refl, cc is)
 split_last [] (b ∷ before) after l e is = absurd (omega (arith, ap length is, length-append before (e ∷ after)))
 split_last (x ∷ h) [] after l e is = inr (h, ap (λ y. y ∷ h) (cc is))
-split_last (x ∷ h) (b ∷ before) after l e is =
-    let head : x ≡ b = cc is in
-    ⊎_elim (λ (t : (h ≡ before) × (l ≡ e)). inl (cc (head, t.0), t.1)) (λ (t : (rest : List Entry) × (h ≡ before ++ e ∷ rest)). inr (t.0, cc (head, t.1))) (split_last h before after l e (cc is))
+split_last (x ∷ h) (b ∷ before) after l e is = grind (arith, split_last h before after l e)
 
 pub aired_more : (plan : PlanView) (kinds : List Kind) (h more : List Entry) (l : Entry) → IsAired plan kinds h → MayFollow plan kinds h l → more ≡ h ++ l ∷ [] → IsAired plan kinds more
-aired_more plan kinds h more l aired may is = record {
-  follows = λ before after e at.
-      ⊎_elim
-      (λ (t : (h ≡ before) × (l ≡ e)). subst (λ (x : List Entry × Entry). MayFollow plan kinds x.0 x.1) (λ i. (t.0 i, t.1 i)) may)
-      (λ (t : (rest : List Entry) × (h ≡ before ++ e ∷ rest)). aired.follows before t.0 e t.1)
-      (split_last h before after l e (sym is ∙ at));
-}
+aired_more plan kinds h more l aired may is = grind (arith, split_last)
 
 pub aired_none : (plan : PlanView) (kinds : List Kind) (h : List Entry) → h ≡ [] → IsAired plan kinds h
 aired_none plan kinds h is = record { follows = λ before after e at. absurd (omega (arith, ap length is, ap length at, length-append before (e ∷ after))) }
 
 pub not_open : (p : Phase) → p ≢ Busy → open_of p ≡ 0
-not_open Down ne = refl
-not_open Idle ne = refl
-not_open Busy ne = absurd (ne refl)
+not_open p ne = grind arith
 
 -- an open turn is counted
 pub busy_counts : (ps : List Phase) (at : ℕ) → at < length ps → get_or ps at Down ≡ Busy → 1 ≤ sum_by open_of ps

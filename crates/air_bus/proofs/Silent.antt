@@ -1,15 +1,13 @@
 -- A dead replica has no entry.
-use Rattle.std.proofs.Common.{◌≡◌, ℕ, true, List, [], ◌∷◌, ◌++◌, append_assoc, refl, sym, ◌∙◌, ap, ne_eqb}
+use Rattle.std.proofs.Common.{◌≡◌, ℕ, true, List, [], ◌∷◌, ◌++◌, append_assoc, refl, sym, ◌∙◌, ne_eqb, arith}
 use Rattle.std.specs.Prelude.{filter}
-use Rattle.air_bus.proofs.Words.{Entry, Begin, End, Stop, Down, Kind, PlanView, MayFollow, IsAired, node_of, is_of, phase, is_dead}
+use Rattle.air_bus.proofs.Words.{Entry, Down, Kind, PlanView, MayFollow, IsAired, node_of, is_of, phase, is_dead}
 use Rattle.air_bus.proofs.Phases.{phase_else}
 
 module _ (plan : PlanView) (kinds : List Kind) (n : ℕ) (dead : is_dead plan.dead kinds n ≡ true) where
   -- an entry of its own would follow none of this kind
   none_begins : (before : List Entry) (e : Entry) → phase n before ≡ Down → MayFollow plan kinds before e → node_of e ≡ n → ⊥
-  none_begins before (Begin node input) down may is = absurd (cc (sym dead ∙ ap (is_dead plan.dead kinds) (sym is) ∙ may.2))
-  none_begins before (End node noted packets kept) down may is = absurd (cc (sym down ∙ ap (λ k. phase k before) (sym is) ∙ may.0))
-  none_begins before (Stop node landed) down may is = absurd (cc (sym down ∙ ap (λ k. phase k before) (sym is) ∙ may))
+  none_begins before e down may is = grind arith
 
   pub none_made : (h : List Entry) → IsAired plan kinds h → filter (is_of n) h ≡ []
   none_made h aired = go [] h refl refl

@@ -18,3 +18,4 @@ mod trail;
 pub use air::Air;
 pub use entry::{Entry, Input, Phase};
 pub use payload::{Packets, Payload};
+pub use trail::Trail;

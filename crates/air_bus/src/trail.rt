@@ -7,7 +7,7 @@ use std::snapshot::Snapshot;
 /// What was told so far, of which contracts see the list. It has no bytes.
 #[derive(Drop)]
 #[cycle(trail)]
-pub(crate) struct Trail<T> {
+pub struct Trail<T> {
     of: Snapshot<Way<T>>,
 }
 
@@ -42,7 +42,7 @@ impl<T> Model for Trail<T> {
 
 impl<T> Trail<T> {
     /// Nothing told yet.
-    pub(crate) fn new() -> Trail<T>
+    pub fn new() -> Trail<T>
         ensures { result ≡ [] }
     {
         Trail {
@@ -51,7 +51,7 @@ impl<T> Trail<T> {
     }
 
     /// Tells one thing more, the last, as it is now. Nothing of it is kept.
-    pub(crate) fn tell(&mut self, thing: &T)
+    pub fn tell(&mut self, thing: &T)
         ensures { self.new ≡ self.old ++ thing.now ∷ [] }
     {
         let before = std::mem::replace(self, Trail::new());

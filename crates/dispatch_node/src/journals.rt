@@ -10,7 +10,7 @@ ghost use Rattle.indexmap.specs.IndexSet.{spare};
 ghost use Rattle.offset_journal.specs.Offsets as offsets;
 ghost use Rattle.retry_log.specs.Pending as pending;
 ghost use Rattle.turn_defs.specs.Turns.{Note};
-ghost use Rattle.site_node.specs.Faults.{was_shut_out, IsOfRestart, IsWhole, MeetsBoth};
+ghost use Rattle.site_node.specs.Faults.{was_shut_out, HasFailed, IsOfRestart, IsWhole, MeetsBoth, of_two};
 ghost use Rattle.dispatch_core.specs.Changes.{told};
 ghost use Rattle.dispatch_node.specs.Kept.{kept_as, landed, takes_note, takes_or_none, HasRoomFor};
 ghost use Rattle.dispatch_node.specs.Node.{IsRecorded, IsTakenBy, IsRoomFor};
@@ -20,9 +20,9 @@ use air_bus::Payload;
 use dispatch_core::DispatchNote;
 use gate_journal::AppendFault;
 use offset_journal::{OffsetJournal, offset_record};
-use outside::{Disk, DiskName};
+use outside::Disk;
 use retry_log::{Change, RetryLog, change_record};
-use site_node::{NodeFault, fault_of};
+use site_node::{NodeDisk, NodeFault, fault_of};
 use std::alloc::{AllocError, Global};
 
 // The offset on one disk, and the pending positions on another. A note is written to one of them alone.
@@ -173,7 +173,7 @@ impl<D: Disk> Journals<D> {
     }
 
     // Reads both disks as a stop left them. Linear in the files.
-    pub(crate) fn reopen(&mut self, site: u8) -> Result<(), NodeFault>
+    pub(crate) fn reopen(&mut self) -> Result<(), NodeFault>
         ensures ready { OnOk result ((self.new.offset.journal.state ≡ Ready) × (self.new.retry.journal.state ≡ Ready)) }
         ensures left { IsTrue D.tells → OnOk result (offsets.IsLeft (D.image self.old.offset.journal.disk) self.new.offset.value.offset
             × pending.IsLeft (D.image self.old.retry.journal.disk) self.new.retry.value.pending.keys) }
@@ -186,9 +186,9 @@ impl<D: Disk> Journals<D> {
         ensures retry_grows { IsTrue D.tells → (c : List ℕ) → D.image self.new.retry.journal.disk c →
             Continues (D.image self.old.retry.journal.disk) c }
         ensures kind { IfErr result IsOfRestart }
-        ensures disk { (disk : _) → IsErrOf result (NodeFault.Disk disk) →
-            Rose (D.faults self.old.offset.journal.disk) (D.faults self.new.offset.journal.disk)
-            ⊎ Rose (D.faults self.old.retry.journal.disk) (D.faults self.new.retry.journal.disk) }
+        ensures failed { IfErr result (HasFailed
+            (of_two (D.faults self.old.offset.journal.disk) (D.faults self.old.retry.journal.disk))
+            (of_two (D.faults self.new.offset.journal.disk) (D.faults self.new.retry.journal.disk))) }
         ensures plan { IsTrue D.planned → MeetsBoth D.stops D.made D.faults (was_shut_out result)
             self.old.offset.journal.disk self.old.retry.journal.disk self.new.offset.journal.disk self.new.retry.journal.disk }
         ensures counts { (D.faults self.old.offset.journal.disk ≤ D.faults self.new.offset.journal.disk)
@@ -199,11 +199,11 @@ impl<D: Disk> Journals<D> {
     {
         match self.offset.reopen(self.alloc) {
             Ok(()) => {}
-            Err(fault) => return Err(fault_of(DiskName::Offset(site), fault)),
+            Err(fault) => return Err(fault_of(NodeDisk::First, fault)),
         }
         match self.retry.reopen(self.alloc) {
             Ok(()) => Ok(()),
-            Err(fault) => Err(fault_of(DiskName::Retry(site), fault)),
+            Err(fault) => Err(fault_of(NodeDisk::Second, fault)),
         }
     }
 }

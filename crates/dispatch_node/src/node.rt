@@ -10,7 +10,7 @@ ghost use Rattle.offset_journal.specs.Offsets as offsets;
 ghost use Rattle.retry_log.specs.Pending as pending;
 ghost use Rattle.turn_defs.specs.Setting.{Setting};
 ghost use Rattle.turn_defs.specs.Configs.{IsOf};
-ghost use Rattle.site_node.specs.Faults.{IsReadFault, MeetsBoth, OfBoth};
+ghost use Rattle.site_node.specs.Faults.{IsReadFault, MeetsBoth, OfBoth, of_two};
 ghost use Rattle.dispatch_core.specs.Changes.{told};
 ghost use Rattle.turn_defs.specs.Dispatcher.{DispatcherKept, DispatcherLive, dispatcher_at_rest, dispatcher_unfinished, dispatcher_wants};
 ghost use Rattle.dispatch_core.specs.Standing.{HasSameNumbers, IsTurn, StandsAs, out_of};
@@ -292,6 +292,8 @@ impl<D: Disk, L: LogFile> SiteNode for DispatchNode<D, L> {
 
     ghost faults = { λ node. D.faults node.journals.offset.journal.disk + D.faults node.journals.retry.journal.disk };
 
+    ghost disk_faults = { λ node. of_two (D.faults node.journals.offset.journal.disk) (D.faults node.journals.retry.journal.disk) };
+
     ghost stops_left = { λ node. OfBoth
         (AtMost (D.stops node.journals.offset.journal.disk) (D.made node.journals.offset.journal.disk))
         (AtMost (D.stops node.journals.retry.journal.disk) (D.made node.journals.retry.journal.disk)) };
@@ -341,7 +343,7 @@ impl<D: Disk, L: LogFile> SiteNode for DispatchNode<D, L> {
     }
 
     fn restart(&mut self) -> Result<Option<Payload>, NodeFault> {
-        self.journals.reopen(self.site)?;
+        self.journals.reopen()?;
         let Some((note, record)) = self.in_doubt.take() else {
             return Ok(None);
         };

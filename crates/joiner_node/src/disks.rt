@@ -8,8 +8,8 @@ use air_bus::Payload;
 use epoch_journal::{EpochJournal, raise};
 use gate_journal::Journal;
 use output_log::{LONGEST, OutputLog, Outputs, laws};
-use outside::{Disk, DiskName};
-use site_node::{NodeFault, fault_of, told_note};
+use outside::Disk;
+use site_node::{NodeDisk, NodeFault, fault_of, told_note};
 use std::alloc::{AllocError, Global};
 use turn_defs::PairRec;
 
@@ -24,9 +24,6 @@ pub(crate) struct Doubt {
 // The journals of a joiner: its epochs, and the pairs that it wrote.
 #[derive(Drop)]
 pub(crate) struct Disks<D: Disk> {
-    // The place of the joiner: its site, and its number there.
-    site: u8,
-    joiner: u8,
     epochs: EpochJournal<D>,
     // That of the pairs keeps none in memory.
     log: Journal<D>,
@@ -47,7 +44,7 @@ impl<D: Disk> Disks<D> {
     ghost use Rattle.gate_journal.specs.Disk.{HasRoom};
     ghost use Rattle.gate_journal.specs.Opening.{IsOpened};
     ghost use Rattle.gate_journal.specs.Growth.{Continues};
-    ghost use Rattle.site_node.specs.Faults.{was_shut_out, IsOfRestart, IsWhole, MeetsBoth};
+    ghost use Rattle.site_node.specs.Faults.{was_shut_out, HasFailed, IsOfRestart, IsWhole, MeetsBoth, of_two};
     ghost use Rattle.epoch_journal.specs.Epochs as epochs;
     ghost use Rattle.epoch_journal.specs.Epochs.{KeepsOr};
     ghost use Rattle.output_log.specs.Pairs.{record_of, KeepsOr as KeepsPairsOr};
@@ -60,13 +57,7 @@ impl<D: Disk> Disks<D> {
     ghost use Rattle.joiner_node.specs.Disks.{EpochOr, PairsOr, MayHave, Holds, AreKept, AreRead, IsNext, with_note, bytes_of, InDoubt, AreInDoubt, IsLeftBehind, IsFound, counted, has_more, IsRoomFor};
 
     // Of journals that are ready.
-    pub(crate) fn new(
-        alloc: Global,
-        site: u8,
-        joiner: u8,
-        epochs: EpochJournal<D>,
-        log: OutputLog<D>,
-    ) -> Disks<D>
+    pub(crate) fn new(alloc: Global, epochs: EpochJournal<D>, log: OutputLog<D>) -> Disks<D>
         requires { (epochs.journal.state ≡ Ready) × (log.journal.state ≡ Ready) }
         ensures epochs { result.epochs ≡ epochs }
         ensures log { result.log ≡ log.journal }
@@ -75,8 +66,6 @@ impl<D: Disk> Disks<D> {
     {
         let (log, outputs) = log.into_parts();
         Disks {
-            site,
-            joiner,
             epochs,
             log,
             written: outputs.pairs().len() as u64,
@@ -103,7 +92,7 @@ impl<D: Disk> Disks<D> {
 
     // Room for the record, if there is one.
     pub(crate) fn make_room(&mut self, writes: &Option<Record>) -> Result<(), AllocError>
-        ensures same { (self.new.site ≡ self.old.site) × (self.new.joiner ≡ self.old.joiner) × (self.new.in_doubt ≡ self.old.in_doubt) }
+        ensures same { (self.new.in_doubt ≡ self.old.in_doubt) }
         ensures epoch { self.new.epochs.value.epoch ≡ self.old.epochs.value.epoch }
         ensures written { self.new.written ≡ self.old.written }
         ensures room { OnOk result (IsRoomFor writes.now (record { epoch_calls = D.calls_left self.new.epochs.journal.disk; epoch_bytes = D.bytes_left self.new.epochs.journal.disk; pair_calls = D.calls_left self.new.log.disk; pair_bytes = D.bytes_left self.new.log.disk })) }
@@ -126,7 +115,6 @@ impl<D: Disk> Disks<D> {
         requires whole { IsOwn writes }
         requires unspent { IsUnspent writes self.old.epochs.value.epoch }
         requires room { IsRoomFor writes (record { epoch_calls = D.calls_left self.old.epochs.journal.disk; epoch_bytes = D.bytes_left self.old.epochs.journal.disk; pair_calls = D.calls_left self.old.log.disk; pair_bytes = D.bytes_left self.old.log.disk }) }
-        ensures same { (self.new.site ≡ self.old.site) × (self.new.joiner ≡ self.old.joiner) }
         ensures up { OnOk result (self.new.in_doubt ≡ None) }
         ensures stopped { OnErr result (is_some self.new.in_doubt ≡ true) }
         ensures kind { IfErr result (λ e. e ≡ NodeFault.Stopped) }
@@ -168,7 +156,7 @@ impl<D: Disk> Disks<D> {
         requires up { self.old.in_doubt ≡ None }
         requires unspent { self.old.epochs.value.epoch < LAST_EPOCH }
         requires room { HasRoom (D.calls_left self.old.epochs.journal.disk) (D.bytes_left self.old.epochs.journal.disk) 5 }
-        ensures same { (self.new.site ≡ self.old.site) × (self.new.joiner ≡ self.old.joiner) × (self.new.log ≡ self.old.log) × (self.new.written ≡ self.old.written) }
+        ensures same { (self.new.log ≡ self.old.log) × (self.new.written ≡ self.old.written) }
         ensures up { OnOk result (self.new.in_doubt ≡ None) }
         ensures kind { IfErr result (λ e. e ≡ NodeFault.Stopped) }
         ensures payload { IfOk result (λ written. written ≡ Some payload) }
@@ -197,7 +185,7 @@ impl<D: Disk> Disks<D> {
         requires up { self.old.in_doubt ≡ None }
         requires whole { IsPair pair × (payload ≡ record_of pair) }
         requires room { HasRoom (D.calls_left self.old.log.disk) (D.bytes_left self.old.log.disk) LONGEST }
-        ensures same { (self.new.site ≡ self.old.site) × (self.new.joiner ≡ self.old.joiner) × (self.new.epochs ≡ self.old.epochs) }
+        ensures same { (self.new.epochs ≡ self.old.epochs) }
         ensures up { OnOk result (self.new.in_doubt ≡ None) }
         ensures kind { IfErr result (λ e. e ≡ NodeFault.Stopped) }
         ensures payload { IfOk result (λ written. written ≡ Some payload) }
@@ -227,7 +215,6 @@ impl<D: Disk> Disks<D> {
     // Reopens both disks as the stop left them, and gives the record in doubt where it landed.
     pub(crate) fn reopen(&mut self) -> Result<Option<Payload>, NodeFault>
         requires waits { is_some self.old.in_doubt ≡ true }
-        ensures same { (self.new.site ≡ self.old.site) × (self.new.joiner ≡ self.old.joiner) }
         ensures up { OnOk result (self.new.in_doubt ≡ None) }
         ensures refused { OnErr result (self.new.in_doubt ≡ self.old.in_doubt) }
         ensures found { IsTrue D.tells → (k : JoinerKept) (n : JoinerNote) → AreInDoubt self.old.in_doubt (Some n) k → MayHave k (with_note (Some n) k) (D.image self.old.epochs.journal.disk) (D.image self.old.log.disk) → IfOk result (λ landed. IsFound landed n k self.new.epochs.value.epoch self.new.written (D.image self.new.epochs.journal.disk) (D.image self.new.log.disk)) }
@@ -237,7 +224,8 @@ impl<D: Disk> Disks<D> {
         ensures pair_grows { IsTrue D.tells → (c : List ℕ) → D.image self.new.log.disk c → Continues (D.image self.old.log.disk) c }
         ensures kind { IfErr result IsOfRestart }
         ensures whole { IsTrue D.tells → (k m : JoinerKept) → MayHave k m (D.image self.old.epochs.journal.disk) (D.image self.old.log.disk) → IfErr result IsWhole }
-        ensures fault { (disk : _) → IsErrOf result (NodeFault.Disk disk) → Rose (D.faults self.old.epochs.journal.disk + D.faults self.old.log.disk) (D.faults self.new.epochs.journal.disk + D.faults self.new.log.disk) }
+        ensures failed { IfErr result (HasFailed (of_two (D.faults self.old.epochs.journal.disk) (D.faults self.old.log.disk))
+            (of_two (D.faults self.new.epochs.journal.disk) (D.faults self.new.log.disk))) }
         ensures plan { IsTrue D.planned → MeetsBoth D.stops D.made D.faults (was_shut_out result) self.old.epochs.journal.disk self.old.log.disk self.new.epochs.journal.disk self.new.log.disk }
         ensures epoch_count { D.faults self.old.epochs.journal.disk ≤ D.faults self.new.epochs.journal.disk }
         ensures pair_count { D.faults self.old.log.disk ≤ D.faults self.new.log.disk }
@@ -262,33 +250,33 @@ impl<D: Disk> Disks<D> {
 
     fn reopen_epochs(&mut self) -> Result<(), NodeFault>
         requires waits { is_some self.old.in_doubt ≡ true }
-        ensures same { (self.new.site ≡ self.old.site) × (self.new.joiner ≡ self.old.joiner) × (self.new.in_doubt ≡ self.old.in_doubt) × (self.new.log ≡ self.old.log) × (self.new.written ≡ self.old.written) }
+        ensures same { (self.new.in_doubt ≡ self.old.in_doubt) × (self.new.log ≡ self.old.log) × (self.new.written ≡ self.old.written) }
         ensures ready { OnOk result (self.new.epochs.journal.state ≡ Ready) }
         ensures left { IsTrue D.tells → OnOk result (epochs.IsLeft (D.image self.old.epochs.journal.disk) self.new.epochs.value.epoch) }
         ensures moments { IsTrue D.tells → Throughout D.image D.since self.old.epochs.journal.disk self.new.epochs.journal.disk (IsOpened (D.image self.old.epochs.journal.disk)) }
         ensures grows { IsTrue D.tells → (c : List ℕ) → D.image self.new.epochs.journal.disk c → Continues (D.image self.old.epochs.journal.disk) c }
         ensures kind { IfErr result IsOfRestart }
         ensures whole { IsTrue D.tells → (k m : JoinerKept) → ((c : List ℕ) → D.image self.old.epochs.journal.disk c → EpochOr k m c) → IfErr result IsWhole }
-        ensures fault { (disk : _) → IsErrOf result (NodeFault.Disk disk) → Rose (D.faults self.old.epochs.journal.disk) (D.faults self.new.epochs.journal.disk) }
+        ensures failed { (others later : ℕ) → IfErr result (HasFailed (of_two (D.faults self.old.epochs.journal.disk) others) (of_two (D.faults self.new.epochs.journal.disk) later)) }
         ensures plan { IsTrue D.planned → MeetsPlan D.stops D.made D.faults 3 (was_shut_out result) self.old.epochs.journal.disk self.new.epochs.journal.disk }
         ensures count { D.faults self.old.epochs.journal.disk ≤ D.faults self.new.epochs.journal.disk }
     {
         match self.epochs.reopen(self.alloc) {
             Ok(()) => Ok(()),
-            Err(fault) => Err(fault_of(DiskName::Epoch(self.site, self.joiner), fault)),
+            Err(fault) => Err(fault_of(NodeDisk::First, fault)),
         }
     }
 
     fn reopen_log(&mut self) -> Result<(), NodeFault>
         requires waits { is_some self.old.in_doubt ≡ true }
-        ensures same { (self.new.site ≡ self.old.site) × (self.new.joiner ≡ self.old.joiner) × (self.new.in_doubt ≡ self.old.in_doubt) × (self.new.epochs ≡ self.old.epochs) }
+        ensures same { (self.new.in_doubt ≡ self.old.in_doubt) × (self.new.epochs ≡ self.old.epochs) }
         ensures ready { OnOk result (self.new.log.state ≡ Ready) }
         ensures read { IsTrue D.tells → OnOk result ((ps : List PairRec) × AreRead (D.image self.old.log.disk) (D.image self.new.log.disk) self.new.written ps) }
         ensures moments { IsTrue D.tells → Throughout D.image D.since self.old.log.disk self.new.log.disk (IsOpened (D.image self.old.log.disk)) }
         ensures grows { IsTrue D.tells → (c : List ℕ) → D.image self.new.log.disk c → Continues (D.image self.old.log.disk) c }
         ensures kind { IfErr result IsOfRestart }
         ensures whole { IsTrue D.tells → (k m : JoinerKept) → ((c : List ℕ) → D.image self.old.log.disk c → PairsOr k m c) → IfErr result IsWhole }
-        ensures fault { (disk : _) → IsErrOf result (NodeFault.Disk disk) → Rose (D.faults self.old.log.disk) (D.faults self.new.log.disk) }
+        ensures failed { (others later : ℕ) → IfErr result (HasFailed (of_two others (D.faults self.old.log.disk)) (of_two later (D.faults self.new.log.disk))) }
         ensures plan { IsTrue D.planned → MeetsPlan D.stops D.made D.faults 3 (was_shut_out result) self.old.log.disk self.new.log.disk }
         ensures count { D.faults self.old.log.disk ≤ D.faults self.new.log.disk }
     {
@@ -297,7 +285,7 @@ impl<D: Disk> Disks<D> {
                 self.written = outputs.pairs().len() as u64;
                 Ok(())
             }
-            Err(fault) => Err(fault_of(DiskName::Output(self.site, self.joiner), fault)),
+            Err(fault) => Err(fault_of(NodeDisk::Second, fault)),
         }
     }
 }

@@ -90,7 +90,7 @@ impl<L: LogFile, D: Disk> JoinerNode<L, D> {
                 number,
                 config,
                 joining,
-                disks: Disks::new(alloc, site, joiner, epochs, log),
+                disks: Disks::new(alloc, epochs, log),
                 alloc,
             }),
             Err((error, queries)) => Err((error, epochs, log, queries)),
@@ -205,7 +205,7 @@ fn joiner_number(replicas: u8, joiners: u8, site: u8, joiner: u8) -> u16
 impl<L: LogFile, D: Disk> SiteNode for JoinerNode<L, D> {
     ghost use Rattle.std.specs.Prelude.{◌≡◌, ◌+◌, ◌&&◌, is_some};
     ghost use Rattle.outside.specs.Plans.{AtMost};
-    ghost use Rattle.site_node.specs.Faults.{OfBoth};
+    ghost use Rattle.site_node.specs.Faults.{OfBoth, of_two};
     ghost use Rattle.site_node.specs.States.{Says};
     ghost use Rattle.turn_defs.specs.Joiner.{joiner_at_rest, joiner_unfinished, joiner_wants};
     ghost use Rattle.gate_journal.specs.Growth.{Continues};
@@ -250,6 +250,8 @@ impl<L: LogFile, D: Disk> SiteNode for JoinerNode<L, D> {
     ghost grown = { λ old new. ((c : _) → D.image new.disks.epochs.journal.disk c → Continues (D.image old.disks.epochs.journal.disk) c) × ((c : _) → D.image new.disks.log.disk c → Continues (D.image old.disks.log.disk) c) };
 
     ghost faults = { λ node. D.faults node.disks.epochs.journal.disk + D.faults node.disks.log.disk };
+
+    ghost disk_faults = { λ node. of_two (D.faults node.disks.epochs.journal.disk) (D.faults node.disks.log.disk) };
 
     ghost stops_left = { λ node. OfBoth (AtMost (D.stops node.disks.epochs.journal.disk) (D.made node.disks.epochs.journal.disk)) (AtMost (D.stops node.disks.log.disk) (D.made node.disks.log.disk)) };
 

@@ -25,9 +25,9 @@ module _ (logs sinks disks : Bool) (told : List ℕ → Option (List ℕ)) (file
     mismatched = λ d l g asked other calm still. inr (inr eight);
     limited = λ d l g asked at calm still. inr (inr (inr eight));
     passed = λ d l g asked e. absurd (omega (arith, eight, e));
-    caused = λ l. inr (fault.Memory, eight, (tt, λ d g asked. tt));
+    caused = λ l. inr (fault.Memory, eight, (tt, λ d g asked. (tt, inl is_unrun)));
     prefix = λ l s d e. absurd (omega (arith, eight, e));
-    tells = λ l s calm. inr (fault.Memory, eight, (tt, λ d g asked. tt), tells s calm);
+    tells = λ l s calm. inr (fault.Memory, eight, (tt, λ d g asked. (tt, inl is_unrun)), tells s calm);
     keeps = λ d l g asked. record { sound = λ sound. sound; grown = λ disk bytes now. continues_same (before disk) bytes now };
     idle = λ d l g asked none disk other bytes now. (bytes, now, refl);
     complete = λ d l g asked sound leaves below calm still quiet. inr eight;

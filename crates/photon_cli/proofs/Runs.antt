@@ -1,5 +1,5 @@
 -- What a run that has come to rest gives the report, and the setting that it is of.
-use Rattle.std.specs.Prelude.{Ok}
+use Rattle.std.specs.Prelude.{Ok, ⊤}
 use Rattle.std.proofs.Common.{◌≡◌, ℕ, suc, ◌+◌, List, [], ◌∷◌, map, Option, Some, None, refl, sym, ap, ◌∙◌, length, subst}
 use Rattle.photon_cli.proofs.Words.{REPLICAS, Config, IfSome, IsSomeAnd, PlanView, AreLinesBy, Images, IsSoundStore, IsTable, Joins, JoinsAfresh, LeavesNothing, RanAfresh, ReportLine, RestJoins, RestJoinsAfresh, RestLeft, RestRanAfresh, RunLeft, RunLog, RunOutcome, RunsOver, ShardRow, distinct, line_of, only_table, EventId, QueryRec, ClickRec, IsQueryLog, IsClickLog, click_line, ClickLine, placed, end_from, lines_follow, Setting, Checked, IsLogOf, IsSettingOf, Values, EndsAt, AreLogs, AreValid, HasIds, HaveIds, IsAsked, IsHeardOf, IsHistory, config_of, IsTextOf}
 use Rattle.photon_cli.proofs.Refusals.{within}
@@ -8,12 +8,17 @@ pub taken : {A : Type 0} (o : Option A) (P : A → Type 0) → IsSomeAnd o P →
 taken None P h = absurd h
 taken (Some x) P h = (x, h)
 
+-- a fault that names nothing
+pub none_named : (o : Option RunLog) → IfSome o (λ l. ⊤)
+none_named None = tt
+none_named (Some l) = tt
+
 -- what is left of a run, and whatever is known of it where it has begun
-pub if_history : (o : Option RunLog) (g : Setting) (before after : Images) (plan : PlanView) (joiners : ℕ) → g.joiners ≡ joiners → IfSome o (λ l. RunLeft g before after l.air.history) → IfSome o (IsHeardOf plan joiners) → IfSome o (IsHistory g before after plan)
+pub if_history : (o : Option RunLog) (g : Setting) (before after : Images) (plan : PlanView) (joiners : ℕ) → g.joiners ≡ joiners → IfSome o (RunLeft g before after) → IfSome o (IsHeardOf plan joiners) → IfSome o (IsHistory g before after plan)
 if_history None g before after plan joiners same left heard = tt
 if_history (Some log) g before after plan joiners same left heard = record { left = left; heard = subst (λ j. IsHeardOf plan j log) (sym same) heard }
 
-pub history : (o : Option RunLog) (g : Setting) (before after : Images) (plan : PlanView) (joiners : ℕ) → g.joiners ≡ joiners → IsSomeAnd o (λ l. RunLeft g before after l.air.history) → IfSome o (IsHeardOf plan joiners) → IsSomeAnd o (IsHistory g before after plan)
+pub history : (o : Option RunLog) (g : Setting) (before after : Images) (plan : PlanView) (joiners : ℕ) → g.joiners ≡ joiners → IsSomeAnd o (RunLeft g before after) → IfSome o (IsHeardOf plan joiners) → IsSomeAnd o (IsHistory g before after plan)
 history None g before after plan joiners same left heard = absurd left
 history (Some log) g before after plan joiners same left heard = record { left = left; heard = subst (λ j. IsHeardOf plan j log) (sym same) heard }
 
@@ -93,8 +98,8 @@ run_setting told now v table config made end_ g asked text same ends =
 -- ---- a run that ended well, and the lines of the journals that were read back
 
 module _ (g : Setting) (before after : Images) (read faulted : Type 0) (ran : Option RunLog) (outcome : RunOutcome) (over : RunsOver g before after read faulted ran (Ok outcome)) where
-  pub began : IsSomeAnd ran (λ l. RunLeft g before after l.air.history)
-  began = known ran (λ l. RestLeft g before after l.air.history faulted outcome.journals) (λ l. RunLeft g before after l.air.history) over.rest over.left
+  pub began : IsSomeAnd ran (RunLeft g before after)
+  began = known ran (λ l. RestLeft g before after l.air.history faulted outcome.journals) (RunLeft g before after) over.rest over.left
     where
       known : {A : Type 0} (o : Option A) (P Q : A → Type 0) → IsSomeAnd o P → IfSome o Q → IsSomeAnd o Q
       known None P Q h k = absurd h

@@ -66,13 +66,14 @@ module _ (logs sinks : Bool) (told : List ℕ → Option (List ℕ)) (files outp
     pub damaged : IsTrue disks → IsTrue logs → (g : Setting) → IsAsked told v g → (disk : DiskName) → IsTaken g before disk → (WasJournal g before disk → ⊥) → (files → ⊥) → (faulted → ⊥) → (status ≡ 7) ⊎ (status ≡ 8)
     pub mismatched : IsTrue disks → IsTrue logs → (g : Setting) → IsAsked told v g → IsMismatched g before → (files → ⊥) → (faulted → ⊥) → (status ≡ 9) ⊎ ((status ≡ 7) ⊎ (status ≡ 8))
     pub limited : IsTrue disks → IsTrue logs → (g : Setting) → IsAsked told v g → IsAtLimit g before → (files → ⊥) → (faulted → ⊥) → (status ≡ 10) ⊎ ((status ≡ 9) ⊎ ((status ≡ 7) ⊎ (status ≡ 8)))
-    -- 0 only where what the disks kept can be run; any other is of a fault, which names a line or a row that is so, or has its cause
+    -- 0 only where what the disks kept can be run; any other is of a fault, which names a line or a row that is so, or has its cause, and names
+    -- of a run what failed
     pub passed : IsTrue disks → IsTrue logs → (g : Setting) → IsAsked told v g → status ≡ 0 → HasPassed g before
-    pub caused : IsTrue logs → (status ≡ 0) ⊎ ((f : RunFault) × (status ≡ status_of f) × IsToldOf told v disks before files faulted f)
+    pub caused : IsTrue logs → (status ≡ 0) ⊎ ((f : RunFault) × (status ≡ status_of f) × IsToldOf told v disks before files faulted unrun ran f)
     -- what went out before a fault of the output is a prefix of the report
     pub prefix : IsTrue logs → IsTrue sinks → IsTrue disks → status ≡ 5 → PrintsPrefix told v before after faulted old new
     -- what is told, unless the standard error has a fault
-    pub tells : IsTrue logs → IsTrue sinks → (errors → ⊥) → TellsBy (IsToldOf told v disks before files faulted) status err_old err_new
+    pub tells : IsTrue logs → IsTrue sinks → (errors → ⊥) → TellsBy (IsToldOf told v disks before files faulted unrun ran) status err_old err_new
     -- At every status a sound store stays sound, and no disk's records are lost. Where nothing is left of a run, each disk but the
     -- topology's stands for what it stood for.
     pub keeps : IsTrue disks → IsTrue logs → (g : Setting) → IsAsked told v g → Keeps g g before after

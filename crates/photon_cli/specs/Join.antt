@@ -82,9 +82,9 @@ module _ (told : List ℕ → Option (List ℕ)) (v : Values) (before after : Im
 abbrev pub IsHeardOf : PlanView → (joiners : ℕ) → RunLog → Type 0
 IsHeardOf plan joiners = site.IsHeardOf plan joiners REPLICAS
 
--- The history is a run of the whole system, from records that the disks kept at entry, and this is what was heard of it.
+-- The history is a run of the whole system, from the records that the disks kept at entry, and this is what was heard of it.
 pub record IsHistory (g : Setting) (before after : Images) (plan : PlanView) (log : RunLog) : Type 0 where
-  pub left : RunLeft g before after log.air.history
+  pub left : RunLeft g before after log
   pub heard : IsHeardOf plan g.joiners log
 
 -- the plan that leaves all packets, disks and replicas alone

@@ -1,5 +1,5 @@
 -- What the program tells on standard error.
-use Rattle.std.specs.Prelude.{ℕ, ◌≡◌, ◌⊎◌, List, ◌++◌, Bool, IsTrue, Option, IsSomeAnd, ⊤}
+use Rattle.std.specs.Prelude.{ℕ, ◌≡◌, ◌⊎◌, List, ◌++◌, Bool, IsTrue, Option, IfSome, IsSomeAnd, ⊤}
 use Rattle.log_records.specs.Check.{RefusesClick}
 use Rattle.command_words.specs.Words.{BulkValues, Text, Values}
 use Rattle.run_fault.specs.declared.fault.LogName.TheVariants.{Queries, Clicks}
@@ -9,7 +9,8 @@ use Rattle.site_laws.specs.Stores.{Images}
 use Rattle.run_fault.specs.declared.fault.RunFault.{RunFault}
 use Rattle.run_fault.specs.declared.fault.RunFault.TheVariants as fault
 use Rattle.photon_cli.specs.Drill.{IsBadIn}
-use Rattle.site_run.specs.Refused.{IsCauseOf}
+use Rattle.site_run.specs.Refused.{IsCauseOf, NamesFailed}
+use Rattle.site_run.specs.declared.ran.RunLog.{RunLog}
 use Rattle.photon_cli.specs.Causes.{HasCauseInVerify, IsOverLog}
 use Rattle.photon_cli.specs.Join.{IsAsked, Refuses}
 use Rattle.run_fault.specs.Faults.{status_of, message}
@@ -30,9 +31,11 @@ module _ (told : List ℕ → Option (List ℕ)) where
   IsNamed v (fault.Reshard u) = ⊥
   IsNamed v _ = ⊤
 
-  -- and where the disks tell what they hold it has its cause, whatever setting the values ask for
-  abbrev pub IsToldOf : Values → (disks : Bool) → Images → (files faulted : Type 0) → RunFault → Type 0
-  IsToldOf v disks before files faulted f = IsNamed v f × (IsTrue disks → (g : Setting) → IsAsked told v g → IsCauseOf g before files faulted f)
+  -- and where the disks tell what they hold it has its cause, whatever setting the values ask for, and what it names has failed by the history
+  -- of a run that began
+  abbrev pub IsToldOf : Values → (disks : Bool) → Images → (files faulted unrun : Type 0) → Option RunLog → RunFault → Type 0
+  IsToldOf v disks before files faulted unrun ran f =
+      IsNamed v f × (IsTrue disks → (g : Setting) → IsAsked told v g → IsCauseOf g before files faulted f × (unrun ⊎ IfSome ran (λ l. NamesFailed g l.air.history f)))
 
   -- the same of a drill, and one that names a place of the plan names its first bad one
   abbrev pub IsNamedInDrill : Values → Text → RunFault → Type 0

@@ -19,7 +19,7 @@ ghost use Rattle.turn_defs.specs.declared.node.Input.TheVariants as given;
 ghost use Rattle.site_node.specs.Bytes.{IsInput};
 ghost use Rattle.turn_defs.specs.Configs.{IsOf};
 ghost use Rattle.site_node.specs.States.{Fits, row_of, Leads, state_phase, Says};
-ghost use Rattle.site_node.specs.Faults.{was_shut_out, IsOfRestart, IsWhole};
+ghost use Rattle.site_node.specs.Faults.{was_shut_out, HasFailed, IsOfRestart, IsWhole, of_two};
 ghost use Rattle.turn_defs.specs.Server.{ServerKept, ServerLive, land_server, server_at_rest, server_unfinished, server_wants};
 ghost use Rattle.registry_server.specs.Cores.{note_of};
 ghost use Rattle.registry_server.specs.declared.turn.ServerNote.{ServerNote};
@@ -34,8 +34,8 @@ use air_bus::{Input as Begun, Packets, Payload};
 use ballot_core::LAST_EPOCH;
 use epoch_journal::{EpochJournal, RaiseFault, raise};
 use gate_journal::JournalFault;
-use outside::{Disk, DiskName, Gate, Point};
-use site_node::{Done, NodeFault, SiteNode, read_input, spell, told_note};
+use outside::{Disk, Gate, Point};
+use site_node::{Done, NodeDisk, NodeFault, SiteNode, read_input, spell, told_note};
 use std::alloc::{AllocError, Global};
 use turn_defs::{Config, Input};
 
@@ -200,7 +200,7 @@ impl<D: Disk> ServerNode<D> {
         ensures moments { IsTrue D.tells → Throughout D.image D.since self.old.journal.journal.disk self.new.journal.journal.disk (IsOpened (D.image self.old.journal.journal.disk)) }
         ensures grows { IsTrue D.tells → Throughout D.image D.since self.old.journal.journal.disk self.new.journal.journal.disk (Continues (D.image self.old.journal.journal.disk)) }
         ensures kind { IfErr result IsOfRestart }
-        ensures fault { (disk : _) → IsErrOf result (NodeFault.Disk disk) → Rose (D.faults self.old.journal.journal.disk) (D.faults self.new.journal.journal.disk) }
+        ensures failed { IfErr result (HasFailed (of_two (D.faults self.old.journal.journal.disk) 0) (of_two (D.faults self.new.journal.journal.disk) 0)) }
         ensures plan { IsTrue D.planned → MeetsPlan D.stops D.made D.faults 3 (was_shut_out result) self.old.journal.journal.disk self.new.journal.journal.disk }
         ensures count { D.faults self.old.journal.journal.disk ≤ D.faults self.new.journal.journal.disk }
         ensures whole { IsTrue D.tells → ((c : List ℕ) → D.image self.old.journal.journal.disk c → (e : ℕ) × Keeps e c) → IfErr result IsWhole }
@@ -208,10 +208,10 @@ impl<D: Disk> ServerNode<D> {
         match self.journal.reopen(self.alloc) {
             Ok(()) => Ok(()),
             Err(JournalFault::Damaged { at }) => Err(NodeFault::Damaged {
-                disk: DiskName::Server(self.site),
+                disk: NodeDisk::First,
                 at,
             }),
-            Err(JournalFault::Disk) => Err(NodeFault::Disk(DiskName::Server(self.site))),
+            Err(JournalFault::Disk) => Err(NodeFault::Disk(NodeDisk::First)),
             Err(JournalFault::Memory) => Err(NodeFault::Memory),
         }
     }
@@ -255,6 +255,8 @@ impl<D: Disk> SiteNode for ServerNode<D> {
     ghost grown = { λ old new. (c : List ℕ) → D.image new.journal.journal.disk c → Continues (D.image old.journal.journal.disk) c };
 
     ghost faults = { λ node. D.faults node.journal.journal.disk };
+
+    ghost disk_faults = { λ node. of_two (D.faults node.journal.journal.disk) 0 };
 
     ghost stops_left = { λ node. AtMost (D.stops node.journal.journal.disk) (D.made node.journal.journal.disk) };
 

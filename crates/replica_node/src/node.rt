@@ -15,7 +15,7 @@ ghost use Rattle.turn_defs.specs.Turns.{land};
 ghost use Rattle.site_node.specs.Bytes.{IsInput};
 ghost use Rattle.turn_defs.specs.Configs.{IsOf};
 ghost use Rattle.site_node.specs.States.{row_of, Fits, Leads, state_phase, Says};
-ghost use Rattle.site_node.specs.Faults.{was_shut_out, IsOfRestart, IsWhole};
+ghost use Rattle.site_node.specs.Faults.{was_shut_out, HasFailed, IsOfRestart, IsWhole, of_two};
 ghost use Rattle.turn_defs.specs.Replica.{ReplicaKept, land_replica, replica_at_rest, replica_unfinished, replica_wants};
 ghost use Rattle.replica_node.specs.Core.{noted, IsRow, GoesOn};
 ghost use Rattle.replica_node.specs.Votes.{IsOfNotes, spells};
@@ -30,10 +30,10 @@ use crate::votes::vote_record;
 use crate::{Turn, VoteJournal, Votes};
 use air_bus::{Input as Begun, Packets, Payload};
 use gate_journal::{Journal, JournalFault};
-use outside::{Disk, DiskName, Gate, Point};
+use outside::{Disk, Gate, Point};
 use packet_codec::Field;
 use paxos_acceptor::ReplicaNote;
-use site_node::{Done, NodeFault, SiteNode, read_input, spell, told_note};
+use site_node::{Done, NodeDisk, NodeFault, SiteNode, read_input, spell, told_note};
 use std::alloc::{AllocError, Global};
 use turn_defs::{Config, Input};
 
@@ -177,7 +177,7 @@ impl<D: Disk> ReplicaNode<D> {
         ensures moments { IsTrue D.tells → Throughout D.image D.since self.old.journal.disk self.new.journal.disk (IsOpened (D.image self.old.journal.disk)) }
         ensures grows { IsTrue D.tells → Throughout D.image D.since self.old.journal.disk self.new.journal.disk (Continues (D.image self.old.journal.disk)) }
         ensures kind { IfErr result IsOfRestart }
-        ensures fault { (disk : _) → IsErrOf result (NodeFault.Disk disk) → Rose (D.faults self.old.journal.disk) (D.faults self.new.journal.disk) }
+        ensures failed { IfErr result (HasFailed (of_two (D.faults self.old.journal.disk) 0) (of_two (D.faults self.new.journal.disk) 0)) }
         ensures plan { IsTrue D.planned → MeetsPlan D.stops D.made D.faults 3 (was_shut_out result) self.old.journal.disk self.new.journal.disk }
         ensures count { D.faults self.old.journal.disk ≤ D.faults self.new.journal.disk }
         ensures whole { IsTrue D.tells → ((c : List ℕ) → D.image self.old.journal.disk c → IsOfNotes c) → IfErr result IsWhole }
@@ -185,10 +185,10 @@ impl<D: Disk> ReplicaNode<D> {
         match VoteJournal::reopen_bare(self.alloc, &mut self.journal) {
             Ok(votes) => Ok(votes),
             Err(JournalFault::Damaged { at }) => Err(NodeFault::Damaged {
-                disk: DiskName::Replica(self.replica),
+                disk: NodeDisk::First,
                 at,
             }),
-            Err(JournalFault::Disk) => Err(NodeFault::Disk(DiskName::Replica(self.replica))),
+            Err(JournalFault::Disk) => Err(NodeFault::Disk(NodeDisk::First)),
             Err(JournalFault::Memory) => Err(NodeFault::Memory),
         }
     }
@@ -232,6 +232,8 @@ impl<D: Disk> SiteNode for ReplicaNode<D> {
     ghost grown = { λ old new. (c : List ℕ) → D.image new.journal.disk c → Continues (D.image old.journal.disk) c };
 
     ghost faults = { λ node. D.faults node.journal.disk };
+
+    ghost disk_faults = { λ node. of_two (D.faults node.journal.disk) 0 };
 
     ghost stops_left = { λ node. AtMost (D.stops node.journal.disk) (D.made node.journal.disk) };
 

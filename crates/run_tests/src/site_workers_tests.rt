@@ -118,6 +118,8 @@ impl SiteNode for Puppet {
 
     ghost faults = { λ node. node.faults };
 
+    ghost disk_faults = { λ node _. node.faults };
+
     ghost stops_left = { λ node most. Unit {0} };
 
     ghost log_faults = { λ node. 0 };

@@ -2,8 +2,10 @@
 use Rattle.std.specs.Prelude.{◌≡◌, ℕ, ◌+◌, Bool, true, false, Result, Ok, Err, ⊤}
 use Rattle.gate_journal.specs.declared.reading.JournalFault.{JournalFault}
 use Rattle.gate_journal.specs.declared.reading.JournalFault.TheVariants as journal
+use Rattle.outside.specs.Faults.{Rose}
 use Rattle.outside.specs.Plans.{AtMost}
-use Rattle.outside.specs.declared.store.DiskName.{DiskName}
+use Rattle.site_node.specs.declared.kind.NodeDisk.{NodeDisk}
+use Rattle.site_node.specs.declared.kind.NodeDisk.TheVariants.{First, Second}
 use Rattle.site_node.specs.declared.kind.NodeFault.{NodeFault}
 use Rattle.site_node.specs.declared.kind.NodeFault.TheVariants.{Stopped, Disk, Damaged, Read, Spent, Memory}
 
@@ -24,6 +26,16 @@ was_shut_out (Err _) = false
 abbrev pub MeetsStops : (met : Bool) → (old new : ℕ → Type 0) → (before after : ℕ) → Type 0
 MeetsStops true old new before after = (k : ℕ) → old k → (left : ℕ) × (k ≡ left + 1) × new left
 MeetsStops false old new before after = ((k : ℕ) → old k → new k) × (after ≡ before)
+
+-- of a node's two disks, the one's or the other's
+abbrev pub of_two : {A : Type 0} → A → A → NodeDisk → A
+of_two first second First = first
+of_two first second Second = second
+
+-- where it names a disk, the count of that disk's faults rose
+abbrev pub HasFailed : (before after : NodeDisk → ℕ) → NodeFault → Type 0
+HasFailed before after (Disk disk) = Rose (before disk) (after disk)
+HasFailed before after _ = ⊤
 
 -- two disks of which each has its own, and the same of both
 abbrev pub OfBoth : (first second : ℕ → Type 0) → ℕ → Type 0
@@ -56,7 +68,7 @@ abbrev pub refused_as : NodeFault → Result ⊤ NodeFault
 refused_as e = Err e
 
 -- what a node tells of a journal of this disk that isn't opened
-abbrev pub fault_told : DiskName → JournalFault → NodeFault
+abbrev pub fault_told : NodeDisk → JournalFault → NodeFault
 fault_told disk (journal.Damaged at) = Damaged disk at
 fault_told disk journal.Disk = Disk disk
 fault_told disk journal.Memory = Memory

@@ -9,12 +9,21 @@ ghost use Rattle.air_bus.specs.declared.entry.Input.{Input};
 ghost use Rattle.air_bus.specs.Copies.{Copy};
 ghost use Rattle.air_bus.specs.History.{next_input, phase_after};
 ghost use Rattle.gate_journal.specs.Fault.{is_of_disk};
-ghost use Rattle.site_node.specs.Faults.{was_stopped, was_shut_out, fault_told, refused_as, MeetsStops, IsOfTurn, IsOfRestart, IsUndamaged, IsWhole};
+ghost use Rattle.gate_journal.specs.declared.reading.JournalFault.TheVariants as journal;
+ghost use Rattle.site_node.specs.declared.kind.NodeDisk.{NodeDisk as Which};
+ghost use Rattle.site_node.specs.Faults.{was_stopped, was_shut_out, fault_told, refused_as, MeetsStops, HasFailed, IsOfTurn, IsOfRestart, IsUndamaged, IsWhole};
 
 use air_bus::{Input, Packets, Payload};
 use gate_journal::JournalFault;
-use outside::{DiskName, Gate};
+use outside::Gate;
 use std::alloc::AllocError;
+
+/// One of a node's disks, of which it has one or two.
+#[derive(Clone, Copy, Debug, PartialEq, Eq)]
+pub enum NodeDisk {
+    First,
+    Second,
+}
 
 /// Why a turn isn't done, or a node isn't up again. After `Read`, `Spent` and `Memory` of a turn the node and its disks are
 /// as they were, and its turn is open still.
@@ -23,9 +32,9 @@ pub enum NodeFault {
     /// A disk failed in this turn: never from `restart`. The node is down and waits for `restart`.
     Stopped,
     /// This disk couldn't be opened again after a stop: from `restart` alone.
-    Disk(DiskName),
+    Disk(NodeDisk),
     /// A disk doesn't hold what this node's journals are: from `restart` alone.
-    Damaged { disk: DiskName, at: u64 },
+    Damaged { disk: NodeDisk, at: u64 },
     /// A log couldn't be read.
     Read,
     /// The node is in its last epoch, which is this one.
@@ -60,11 +69,12 @@ pub fn told_note(landed: bool, note: Option<Payload>) -> Option<Payload>
 }
 
 /// Why a journal of this disk isn't opened again.
-pub fn fault_of(disk: DiskName, fault: JournalFault) -> NodeFault
+pub fn fault_of(disk: NodeDisk, fault: JournalFault) -> NodeFault
     ensures told { result ≡ fault_told disk fault }
     ensures kind { IsOfRestart result }
     ensures whole { IsUndamaged fault → IsWhole result }
     ensures shut { is_of_disk fault ≡ was_shut_out (refused_as result) }
+    ensures failed { (before after : Which → ℕ) → (fault ≡ journal.Disk → Rose (before disk) (after disk)) → HasFailed before after result }
 {
     match fault {
         JournalFault::Damaged { at } => NodeFault::Damaged { disk, at },
@@ -132,6 +142,9 @@ pub trait SiteNode {
     /// How many faults its disks have met, all in all.
     ghost faults: { Self → ℕ };
 
+    /// How many one of them has met.
+    ghost disk_faults: { Self → Which → ℕ };
+
     /// Whether at most so many of the changing calls to come of its disks are planned to fail.
     ghost stops_left: { Self → ℕ → Type 0 };
 
@@ -196,7 +209,7 @@ pub trait SiteNode {
         ensures grown { IsTrue tells → (s : State) → stands self.old s → grown self.old self.new }
         // Why it isn't up again.
         ensures kind { IfErr result IsOfRestart }
-        ensures fault { (disk : _) → IsErrOf result (NodeFault.Disk disk) → Rose (faults self.old) (faults self.new) }
+        ensures fault { IfErr result (HasFailed (disk_faults self.old) (disk_faults self.new)) }
         ensures plan { IsTrue planned → MeetsStops (was_shut_out result) (stops_left self.old) (stops_left self.new) (faults self.old) (faults self.new) }
         ensures whole { IsTrue tells → (s : State) → stands self.old s → IfErr result IsWhole }
         ensures count { faults self.old ≤ faults self.new }

@@ -5,6 +5,6 @@ mod kind;
 mod reading;
 mod spelling;
 
-pub use kind::{Done, NodeFault, SiteNode, fault_of, told_note};
+pub use kind::{Done, NodeDisk, NodeFault, SiteNode, fault_of, told_note};
 pub use reading::read_input;
 pub use spelling::{number_of, spell};

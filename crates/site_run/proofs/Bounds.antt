@@ -1,5 +1,5 @@
 -- The bounds of accepted records.
-use Rattle.std.proofs.Common.{◌≡◌, inl, inr, ⊎_elim, ℕ, zero, suc, ◌+◌, ◌<◌, ◌≤◌, List, [], ◌∷◌, ◌++◌, refl, ap, subst, arith}
+use Rattle.std.proofs.Common.{◌≡◌, inl, inr, ⊎_elim, ℕ, zero, suc, ◌+◌, ◌<◌, ◌≤◌, List, [], ◌∷◌, ◌++◌, refl, arith}
 use Rattle.site_run.proofs.Words.{cases_lt, Mem, mem_left, mem_right, mem_split, Batch, Ballot, Place, Promised, Accepted, BallotNote, ReplicaKept}
 
 abbrev bounds_in : List BallotNote → List ℕ
@@ -9,10 +9,8 @@ bounds_in (Promised p b ∷ ns) = bounds_in ns
 
 has_bound : (ns : List BallotNote) (at : Place) (b : Ballot) (v : Batch) → Mem (Accepted at b v) ns → Mem v.bound (bounds_in ns)
 has_bound [] at b v m = absurd m
-has_bound (Accepted p c w ∷ ns) at b v (inl e) = let same : w ≡ v = cc in inl (ap (λ (x : Batch). x.bound) same)
-has_bound (Accepted p c w ∷ ns) at b v (inr m) = inr (has_bound ns at b v m)
-has_bound (Promised p c ∷ ns) at b v (inl e) = absurd cc
-has_bound (Promised p c ∷ ns) at b v (inr m) = has_bound ns at b v m
+has_bound (Accepted p c w ∷ ns) at b v h = grind (arith, has_bound ns at b v)
+has_bound (Promised p c ∷ ns) at b v h = grind (arith, has_bound ns at b v)
 
 -- a record among these accepts a value with the bound
 abbrev pub Accepts : List BallotNote → ℕ → Type 0
@@ -31,10 +29,7 @@ bounds_from f from (suc n) = bounds_in (f from).notes ++ bounds_from f (suc from
 
 pub to_bounds : (f : ℕ → ReplicaKept) (from n r : ℕ) (at : Place) (b : Ballot) (v : Batch) → from ≤ r → r < from + n → Mem (Accepted at b v) (f r).notes → Mem v.bound (bounds_from f from n)
 to_bounds f from zero r at b v low high m = absurd (omega arith)
-to_bounds f from (suc n) r at b v low high m =
-    ⊎_elim (λ lt. mem_right v.bound (bounds_in (f from).notes) (bounds_from f (suc from) n) (to_bounds f (suc from) n r at b v lt (omega arith) m))
-    (λ ge. mem_left v.bound (bounds_in (f from).notes) (bounds_from f (suc from) n) (has_bound (f from).notes at b v (subst (λ k. Mem (Accepted at b v) (f k).notes) (let e : r ≡ from = omega arith in e) m)))
-    (cases_lt from r)
+to_bounds f from (suc n) r at b v low high m = grind (arith, mem_right, mem_left, has_bound, cases_lt, to_bounds f (suc from) n r at b v)
 
 pub from_bounds : (f : ℕ → ReplicaKept) (from n bound : ℕ) → Mem bound (bounds_from f from n) → (r : ℕ) × (r < from + n) × Accepts (f r).notes bound
 from_bounds f from zero bound m = absurd m

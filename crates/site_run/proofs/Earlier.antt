@@ -15,17 +15,7 @@ module _ (g : Setting) (before placed : Images) (same : (disk : DiskName) → Wi
 
   -- a store that wasn't opened is given up, and stands for nothing new
   pub not_begun : (read faulted : Type 0) (f : RunFault) → IsCauseOf g before read faulted f → IsWelcome (LeavesSomething g before) f → RunsOver g before placed read faulted None (Err f)
-  not_begun read faulted f cause welcome = record {
-    ends = record {
-      keeps = record { sound = sound_placed g before placed within; grown = λ disk. goes_on_within (before disk) (placed disk) (within disk) };
-      idle = λ none disk other c here. opened_same (before disk) c (within disk c here);
-      passed = tt;
-      caused = cause;
-      welcome = λ sound. welcome;
-    };
-    left = tt;
-    rest = tt;
-  }
+  not_begun read faulted f cause welcome = search (sound_placed, within, goes_on_within, opened_same)
 
   pub ran_earlier : (after : Images) (files read stores faulted : Type 0) (ran : Option RunLog) (r : Result Outcome RunFault) → (files → read) → (stores → faulted) → RunsOver g placed after files stores ran r → RunsOver g before after read faulted ran r
   ran_earlier after files read stores faulted ran r to_read to_faulted x = record {
@@ -41,4 +31,5 @@ module _ (g : Setting) (before placed : Images) (same : (disk : DiskName) → Wi
     };
     left = run_earlier g before placed after within ran x.left;
     rest = rest_earlier g before placed after within r ran stores faulted to_faulted x.rest;
+    named = x.named;
   }

@@ -1,7 +1,7 @@
 -- What a run leaves, by what its parts do.
 use Rattle.std.specs.Prelude.{IfSome, IsSomeAnd, IfOk}
-use Rattle.std.proofs.Common.{◌≡◌, inl, ℕ, List, [], ◌∷◌, ◌++◌, Option, None, Some, Result, Ok, Err, refl, sym, subst}
-use Rattle.site_run.proofs.Words.{Each, Mem, mem_left, mem_right, each_at, each_from, each_more, each_append, DiskName, StoreFault, BusEntry, IsQueryLog, Setting, Checked, IsLogOf, Disks, topology_of, Store, WholeSound, ReadIsChecked, RunFault, IsCounted, IsWelcome, of_place, IsKeptIn, Images, AreLeft, IsSoundStore, SameRecords, KeepsOf, KeepsTopology, RunStaysSound, Journals, Outcome, RunLog, Config, AreLogsOf, IsSettingOf, IsSettingOver, HasRun, HasRested, RunLeft, RestLeft}
+use Rattle.std.proofs.Common.{◌≡◌, inl, ℕ, List, [], ◌∷◌, ◌++◌, Option, None, Some, Result, Ok, Err, refl, sym, subst, arith}
+use Rattle.site_run.proofs.Words.{KeptDisk, AreRecordsOf, Each, Mem, mem_left, mem_right, each_at, each_from, each_more, each_append, DiskName, StoreFault, BusEntry, IsQueryLog, Setting, Checked, IsLogOf, Disks, topology_of, Store, WholeSound, ReadIsChecked, RunFault, IsCounted, IsWelcome, of_place, IsKeptIn, Images, AreLeft, IsSoundStore, SameRecords, RunStaysSound, Journals, Outcome, RunLog, Config, AreLogsOf, IsSettingOf, IsSettingOver, HasRun, HasRested, RunLeft, RestLeft}
 use Rattle.outside.specs.declared.store.DiskName.TheVariants as name
 use Rattle.outside.specs.declared.faults.StoreFault.TheVariants as store
 use Rattle.run_fault.specs.declared.fault.RunFault.TheVariants as fault
@@ -9,10 +9,10 @@ use Rattle.run_fault.specs.declared.fault.Mismatch.TheVariants as mismatch
 
 -- ---- where a run began, and where none did
 
-pub run_left : (o : Option RunLog) (g : Setting) (before after : Images) (s : Store) → AreLeft g before s
-    → ((d : Disks) → SameRecords g s.disks d → IfSome o (λ l. HasRun g d l.air.history after)) → IfSome o (λ l. RunLeft g before after l.air.history)
-run_left None g before after s kept run = tt
-run_left (Some l) g before after s kept run = record { store = s; kept = kept; ran = run }
+pub run_left : (o : Option RunLog) (g : Setting) (before after : Images) (s : Store) (opened : List KeptDisk) → AreLeft g before s → AreRecordsOf g opened s.disks → IfSome o (λ l. l.opened ≡ opened)
+    → ((d : Disks) → SameRecords g s.disks d → IfSome o (λ l. HasRun g d l.air.history after)) → IfSome o (RunLeft g before after)
+run_left None g before after s opened kept records same run = tt
+run_left (Some l) g before after s opened kept records same run = record { store = s; kept = kept; opened = subst (λ k. AreRecordsOf g k s.disks) (sym same) records; ran = run }
 
 pub rest_left : (r : Result Outcome RunFault) (o : Option RunLog) (g : Setting) (before after : Images) (s : Store) (faulted : Type 0) → AreLeft g before s
     → ((d : Disks) → SameRecords g s.disks d → IfOk r (λ outcome. IsSomeAnd o (λ l. HasRested g d l.air.history after faulted outcome.journals)))
@@ -42,11 +42,7 @@ put_back P items rest new last next is now good all =
 -- the logs are the setting's still
 pub over_back : {L : Type 0} (bytes : L → List ℕ) (config : Config) (g : Setting) (items rest new queries : List L) (last next : L) → items ≡ rest ++ last ∷ [] → new ≡ rest ++ next ∷ [] → IsLogOf (bytes next) g
     → AreLogsOf bytes items queries config g → AreLogsOf bytes new queries config g
-over_back {L} bytes config g items rest new queries last next is now good all = record {
-  numbers = all.numbers;
-  clicks_are = put_back (λ (l : L). IsLogOf (bytes l) g) items rest new last next is now good all.clicks_are;
-  queries_are = all.queries_are;
-}
+over_back {L} bytes config g items rest new queries last next is now good all = grind (arith, put_back)
 
 -- ---- the setting of logs that are open
 
@@ -56,14 +52,7 @@ some_at {A} P o x is some = subst (λ (y : Option A). IsSomeAnd y P) is some
 pub over_so : {L : Type 0} (bytes : L → List ℕ) (told : List ℕ → Option (List ℕ)) (queries clicks : List ℕ) (config : Config) (end_ : ℕ) (g : Setting) (click_logs query_logs : List L)
     → Each (λ (l : L). told clicks ≡ Some (bytes l)) click_logs → Each (λ (l : L). told queries ≡ Some (bytes l)) query_logs
     → IsSettingOf told queries clicks config end_ g → IsSettingOver bytes click_logs query_logs config end_ g
-over_so {L} bytes told queries clicks config end_ g click_logs query_logs of_clicks of_queries is = record {
-  logs = record {
-    numbers = is.numbers;
-    clicks_are = each_more (λ (l : L). told clicks ≡ Some (bytes l)) (λ (l : L). IsLogOf (bytes l) g) click_logs (λ l same. some_at (λ log. IsLogOf log g) (told clicks) (bytes l) same is.clicks_are) of_clicks;
-    queries_are = each_more (λ (l : L). told queries ≡ Some (bytes l)) (λ (l : L). IsQueryLog (bytes l) g.queries) query_logs (λ l same. some_at (λ log. IsQueryLog log g.queries) (told queries) (bytes l) same is.queries_are) of_queries;
-  };
-  ends = is.ends;
-}
+over_so {L} bytes told queries clicks config end_ g click_logs query_logs of_clicks of_queries is = grind (arith, each_more, some_at)
 
 pub checked_so : ReadIsChecked → (g : Setting) (a b : Option (List ℕ)) → IsSomeAnd a (λ log. IsQueryLog log g.queries) → IsSomeAnd b (λ log. IsLogOf log g) → Checked g
 checked_so law g None b of_a of_b = absurd of_a
@@ -83,19 +72,10 @@ place_welcome store.Memory holds = tt
 -- ---- where the counts were lower, and where less holds
 
 pub counted_more : (f : RunFault) (logs stores logs_too stores_too : Type 0) → (logs → logs_too) → (stores → stores_too) → IsCounted logs stores f → IsCounted logs_too stores_too f
-counted_more (fault.Read log) logs stores logs_too stores_too more_logs more_stores is = more_logs is
-counted_more (fault.Store place) logs stores logs_too stores_too more_logs more_stores is = more_stores is
-counted_more (fault.Damaged disk at) logs stores logs_too stores_too more_logs more_stores is = tt
-counted_more (fault.Topology what) logs stores logs_too stores_too more_logs more_stores is = tt
-counted_more (fault.Limit disk value) logs stores logs_too stores_too more_logs more_stores is = tt
-counted_more fault.Memory logs stores logs_too stores_too more_logs more_stores is = tt
-counted_more _ logs stores logs_too stores_too more_logs more_stores is = absurd is
+counted_more f logs stores logs_too stores_too more_logs more_stores is = grind arith
 
 pub welcome_where : (f : RunFault) (holds less : Type 0) → (less → holds) → IsWelcome holds f → IsWelcome less f
-welcome_where (fault.Damaged disk at) holds less from is = λ l. is (from l)
-welcome_where (fault.Topology (mismatch.Joiners kept asked)) holds less from is = λ l. is (from l)
-welcome_where (fault.Topology what) holds less from is = absurd is
-welcome_where _ holds less from is = tt
+welcome_where f holds less from is = grind arith
 
 -- ---- from a store that was placed to the one before
 
@@ -103,10 +83,7 @@ kept_in : (before placed keeps : List ℕ → Type 0) → ((c : List ℕ) → pl
 kept_in before placed keeps within kept = (kept.0, within kept.0 kept.1, kept.2)
 
 pub left_before : (g : Setting) (before placed : Images) (s : Store) → ((disk : DiskName) (c : List ℕ) → placed disk c → before disk c) → AreLeft g placed s → AreLeft g before s
-left_before g before placed s within kept = record {
-  topology = kept_in (before name.Topology) (placed name.Topology) (KeepsTopology s.topology) (within name.Topology) kept.topology;
-  records = λ disk is. kept_in (before disk) (placed disk) (KeepsOf g s.disks disk) (within disk) (kept.records disk is);
-}
+left_before g before placed s within kept = grind (arith, kept_in)
 
 rested_where : (g : Setting) (d : Disks) (h : List BusEntry) (after : Images) (less more : Type 0) (journals : Journals) → (less → more) → HasRested g d h after less journals → HasRested g d h after more journals
 rested_where g d h after less more journals from is = record {
@@ -124,9 +101,9 @@ pub sound_placed : (g : Setting) (before placed : Images) → ((disk : DiskName)
 sound_placed g before placed within sound b choice = sound b (λ disk is. within disk (b disk) (choice disk is))
 
 module _ (g : Setting) (before placed after : Images) (within : (disk : DiskName) (c : List ℕ) → placed disk c → before disk c) where
-  pub run_earlier : (o : Option RunLog) → IfSome o (λ l. RunLeft g placed after l.air.history) → IfSome o (λ l. RunLeft g before after l.air.history)
+  pub run_earlier : (o : Option RunLog) → IfSome o (RunLeft g placed after) → IfSome o (RunLeft g before after)
   run_earlier None left = tt
-  run_earlier (Some l) left = record { store = left.store; kept = left_before g before placed left.store within left.kept; ran = left.ran }
+  run_earlier (Some l) left = record { store = left.store; kept = left_before g before placed left.store within left.kept; opened = left.opened; ran = left.ran }
 
   pub rest_earlier : (r : Result Outcome RunFault) (o : Option RunLog) (less more : Type 0) → (less → more)
       → IfOk r (λ outcome. IsSomeAnd o (λ l. RestLeft g placed after l.air.history less outcome.journals)) → IfOk r (λ outcome. IsSomeAnd o (λ l. RestLeft g before after l.air.history more outcome.journals))

@@ -1,6 +1,6 @@
 -- From a store that was opened to the nodes of a run over it: their records, their places, and the disks that are out.
-use Rattle.std.proofs.Common.{◌≡◌, ◌≢◌, ⊎_elim, inl, inr, ℕ, ◌<◌, List, [], ◌∷◌, map, Some, sym, ◌∙◌, ap, subst, arith}
-use Rattle.site_run.proofs.Words.{Each, Mem, each_at, each_more, DiskName, IsOpened, Topology, Setting, AreKeptPlaces, Disks, topology_of, Lent, IsOfOne, MayBeLeft, StaysAs, GoesOn, opened_same, Images, IsSoundStore, KeepsTopology, WrittenIsSound, IsTopologyWritten, Fits, all_kept, other_names, KeptDisk, OpenView, IsOfKind, AreRecordsOf, kept_all, lent_all, IsOut, IsAsked, others_apart, others_are, is_named, not_topology, IsDisk, records_of, are_records, site_fits, names_kept, AreOut, KeepsItsRecord}
+use Rattle.std.proofs.Common.{◌≡◌, ◌≢◌, ⊎_elim, ℕ, ◌<◌, List, [], ◌∷◌, map, Some, sym, ◌∙◌, subst, arith}
+use Rattle.site_run.proofs.Words.{Each, Mem, each_at, each_more, DiskName, IsOpened, Topology, Setting, AreKeptPlaces, Disks, topology_of, Lent, IsOfOne, MayBeLeft, StaysAs, opened_same, Images, IsSoundStore, KeepsTopology, WrittenIsSound, IsTopologyWritten, Fits, all_kept, other_names, KeptDisk, OpenView, IsOfKind, AreRecordsOf, kept_all, lent_all, IsOut, IsAsked, others_apart, others_are, is_named, not_topology, records_of, are_records, site_fits, names_kept, AreOut, KeepsItsRecord}
 use Rattle.outside.specs.declared.store.DiskName.TheVariants as name
 use Rattle.topology_journal.specs.Topologies as journal
 use Rattle.site_run.proofs.Outing.{stays_goes_on}
@@ -10,9 +10,7 @@ use Rattle.site_run.proofs.Outing.{stays_goes_on}
 module _ {D : Type 0} (disks : List (OpenView D)) (n replicas : ℕ) (named : map (λ (o : OpenView D). o.name) disks ≡ other_names n replicas) where
   -- as opening the store tells them
   pub records_so : (g : Setting) → g.replicas ≡ replicas → g.joiners ≡ n → Each (λ (k : KeptDisk). IsOfKind k.name k.kept) (kept_all disks) → AreRecordsOf g (kept_all disks) (records_of g (kept_all disks))
-  records_so g count same kinds =
-      let are = subst (λ r. Each (IsDisk g) (other_names n r)) count (others_are g n (omega (arith, same))) in
-      are_records g (kept_all disks) (other_names n replicas) (names_kept disks ∙ named) (others_apart n replicas) are kinds
+  records_so g count same kinds = grind (arith, others_are, are_records, names_kept, others_apart)
 
   there : (disk : DiskName) → Mem disk (other_names n replicas) → Mem disk (map (λ (k : KeptDisk). k.name) (kept_all disks))
   there disk = subst (λ (l : List DiskName). Mem disk l) (sym (names_kept disks ∙ named))
@@ -39,17 +37,11 @@ all_apart disks n replicas named = apart_from disks (subst (Each (λ m. m ≢ na
 
 -- the setting's record is what was asked
 asked_same : (asked : Topology) (g : Setting) → IsAsked asked g → (c : List ℕ) → journal.Keeps (Some asked) c → KeepsTopology (Some (topology_of g)) c
-asked_same asked g is c keeps =
-    let same : journal.topology_of g.joiners g.table ≡ asked = ap (λ j. journal.topology_of j g.table) is.joiners ∙ ap (λ t. journal.topology_of asked.joiners t) is.table in
-    subst (λ (t : Topology). journal.Keeps (Some t) c) (sym same) keeps
+asked_same asked g is c keeps = grind arith
 
 module _ {D : Type 0} (asked : Topology) (left : D → List ℕ → Type 0) (before inside : Images) (topology : Lent D) (others : List (Lent D)) (out : IsOut asked left before inside topology others) where
   pub out_so : AreOut left before inside topology others
-  out_so = record {
-    grown = out.grown;
-    went = each_more (λ (l : Lent D). StaysAs (before l.name) (left l.disk)) (λ (l : Lent D). GoesOn (before l.name) (left l.disk)) others (λ l stays. stays_goes_on (before l.name) (left l.disk) stays) out.stay;
-    in_store = out.in_store;
-  }
+  out_so = search (each_more, stays_goes_on)
 
   pub keeps_so : (g : Setting) → IsAsked asked g → topology.name ≡ name.Topology → KeepsItsRecord left g topology
   keeps_so g is named = record { named = named; keeps = λ c here. asked_same asked g is c (out.keeps c here) }
@@ -59,18 +51,12 @@ module _ {D : Type 0} (asked : Topology) (left : D → List ℕ → Type 0) (bef
   module _ (named : topology.name ≡ name.Topology) where
     -- of a disk but the topology's
     of_other : (disk : DiskName) (c : List ℕ) → disk ≢ name.Topology → IsOfOne left (topology ∷ others) disk c → IsOpened (before disk) c
-    of_other disk c other of = elim of.among [
-      | inl same ↦ absurd (other (sym of.named ∙ ap (λ (l : Lent D). l.name) (sym same) ∙ named))
-      | inr m ↦ subst (λ (n : DiskName). IsOpened (before n) c) of.named (each_at (λ (l : Lent D). StaysAs (before l.name) (left l.disk)) others out.stay of.one m c of.may)
-    ]
+    of_other disk c other of = grind (arith, each_at)
 
     module _ (apart : Each IsApart others) where
       -- of the topology's
       of_topology : (c : List ℕ) → IsOfOne left (topology ∷ others) name.Topology c → left topology.disk c
-      of_topology c of = elim of.among [
-        | inl same ↦ subst (λ (l : Lent D). left l.disk c) (sym same) of.may
-        | inr m ↦ absurd (each_at IsApart others apart of.one m of.named)
-      ]
+      of_topology c of = grind (arith, each_at)
 
       module _ (after : Images) (give : (disk : DiskName) (c : List ℕ) → after disk c → MayBeLeft left inside (topology ∷ others) disk c) where
         topology_left : (c : List ℕ) → after name.Topology c → left topology.disk c
@@ -81,16 +67,10 @@ module _ {D : Type 0} (asked : Topology) (left : D → List ℕ → Type 0) (bef
 
         -- something was left of the topology's disk before, if something of it is left now
         topology_was : (c : List ℕ) → after name.Topology c → (o : List ℕ) × before name.Topology o
-        topology_was c now =
-            let from = out.grown c (topology_left c now) in
-            (from.0, subst (λ (n : DiskName). before n from.0) named from.1)
+        topology_was c now = grind (arith, topology_left)
 
         written_so : (g : Setting) → IsAsked asked g → (c : List ℕ) → after name.Topology c → IsTopologyWritten g before after
-        written_so g is c now = record {
-          was = topology_was c now;
-          topology = λ b here. inr (asked_same asked g is b (out.keeps b (topology_left b here)));
-          others = λ disk _ other. other_stays disk other;
-        }
+        written_so g is c now = grind (arith, topology_was, asked_same, topology_left, other_stays)
 
         -- the store is as sound as it was
         pub still_sound : (g : Setting) → IsAsked asked g → WrittenIsSound g before after → IsSoundStore g before → IsSoundStore g after

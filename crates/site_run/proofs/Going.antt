@@ -60,11 +60,7 @@ module _ {D A B C E : Type 0} (image : D → List ℕ → Type 0) (offset retry 
       one.by (λ d. of_dispatcher number (offset d) (retry d)) (λ s. of_server number (server s)) (λ r. of_replica number (replica r)) (λ j. of_joiner config number (epochs j) (outputs j))
 
   pub one_on : (config : Config) (number : ℕ) (v w : OneOf A B C E) → Grown v w → HaveGoneOn image (disks_by config number v) (disks_by config number w)
-  one_on config number (node.First v) (node.First w) on = (record { named = refl; grown = on.0 }, (record { named = refl; grown = on.1 }, tt))
-  one_on config number (node.Second v) (node.Second w) on = (record { named = refl; grown = on }, tt)
-  one_on config number (node.Third v) (node.Third w) on = (record { named = refl; grown = on }, tt)
-  one_on config number (node.Fourth v) (node.Fourth w) on = (record { named = refl; grown = on.0 }, (record { named = refl; grown = on.1 }, tt))
-  one_on config number _ _ on = absurd on
+  one_on config number v w on = grind arith
 
 -- ---- the disks of all nodes
 

@@ -1,5 +1,5 @@
 -- The disks of a node that stands at a state hold what the state says.
-use Rattle.std.proofs.Common.{◌≡◌, ◌⊎◌, inl, inr, ⊎_elim, ℕ, Bool, true, false, ◌&&◌, List, Option, Some, None, refl, ap, ◌∙◌}
+use Rattle.std.proofs.Common.{◌≡◌, ◌⊎◌, inl, inr, ⊎_elim, ℕ, Bool, ◌&&◌, List, Option, Some, None, refl, ap, ◌∙◌, arith}
 use Rattle.std.specs.Prelude.{IsTrue}
 use Rattle.site_run.proofs.Words.{Node, Dispatcher, Server, Replica, Joiner, Input, Setting, node_number, Note, Out, land, State, MayHold, row_of, DispatcherState, ServerKept, ServerLive, land_server, SiteKept, ServerState, ReplicaState, JoinerState, StateOf, server_rows, OneOf, AnyState, any_of, with_site, StatesKeepVotes, HasSpelledNotes, HoldsAs, Config}
 use Rattle.dispatch_node.specs.Images as dispatcher
@@ -13,9 +13,7 @@ use Rattle.site_run.proofs.Going.{disks_by}
 
 -- where disk and log tell, so does a node of any kind
 pub all_tell : (disk log : Bool) → IsTrue disk → IsTrue log → IsTrue (((disk && log) && disk) && (disk && (disk && log)))
-all_tell true true d l = refl
-all_tell true false d l = absurd (cc l)
-all_tell false log d l = absurd (cc d)
+all_tell disk log d l = grind arith
 
 -- ---- a server, whose records carry its site
 

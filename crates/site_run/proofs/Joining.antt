@@ -117,16 +117,7 @@ afresh laws g before after h faulted js lines checked table nothing rest are = r
 -- ---- by the run's own history
 
 stopped : (g : Setting) (d : Disks) (h : List BusEntry) (after : Images) (faulted : Type 0) (js : Journals) → NoneStops → HasRested g d h after faulted js → HasRested g d h after (JoinerStopped g h) js
-stopped g d h after faulted js none rested = record {
-  at = rested.at;
-  entries = rested.entries;
-  run = rested.run;
-  rest = rested.rest;
-  keeps = rested.keeps;
-  holds = rested.holds;
-  read = rested.read;
-  stops = λ calm. none g d h rested.at rested.entries rested.run (λ j is e. calm (j, is, e));
-}
+stopped g d h after faulted js none rested = search
 
 by_stops : (g : Setting) (before after : Images) (h : List BusEntry) (faulted : Type 0) (js : Journals) → NoneStops → RestLeft g before after h faulted js → RestLeft g before after h (JoinerStopped g h) js
 by_stops g before after h faulted js none rest = record { store = rest.store; kept = rest.kept; ran = λ d same. stopped g d h after faulted js none (rest.ran d same) }

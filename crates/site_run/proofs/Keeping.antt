@@ -67,14 +67,14 @@ module _ {N D : Type 0} (image : D → List ℕ → Type 0) (disks_of : ℕ → 
       x.among
 
   -- what is left is of a disk of the setting
-  pub disk_there : (disk : DiskName) → disk ≢ name.Topology → (c : List ℕ) → IsOfOne image every_disk disk c → IsDisk g disk
-  disk_there disk other c x =
+  pub disk_there : (disk : DiskName) → disk ≢ name.Topology → (l : Lent D) → Mem l every_disk → l.name ≡ disk → IsDisk g disk
+  disk_there disk other l among is =
       ⊎_elim
-      (λ e. absurd (other (sym x.named ∙ ap (λ (l : Lent D). l.name) (sym e) ∙ named)))
+      (λ e. absurd (other (sym is ∙ ap (λ (l : Lent D). l.name) (sym e) ∙ named)))
       (λ m.
-      let has = node_of_disk x.one m in
-      of_setting g has.node disk has.is (subst (λ d. IsDiskOf (numbers_of g) has.node d) x.named (names_of image (numbers_of g) has.node (at has.node) (disks_at has.node a_node) (all.each has.node has.is a_node) x.one has.among)))
-      x.among
+      let has = node_of_disk l m in
+      of_setting g has.node disk has.is (subst (λ d. IsDiskOf (numbers_of g) has.node d) is (names_of image (numbers_of g) has.node (at has.node) (disks_at has.node a_node) (all.each has.node has.is a_node) l has.among)))
+      among
 
   pub topology_image : (c : List ℕ) → IsOfOne image every_disk name.Topology c → image topology.disk c
   topology_image c x =

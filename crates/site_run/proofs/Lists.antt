@@ -1,35 +1,17 @@
 -- Lists of nodes that grow at their end.
-use Rattle.std.proofs.Common.{◌≡◌, ⊎_elim, ℕ, suc, ◌+◌, ◌<◌, List, [], ◌∷◌, ◌++◌, length, map, get_or, slice_index_or, refl, sym, ap, ◌∙◌, subst, arith, append_assoc, length-append}
+use Rattle.std.proofs.Common.{◌≡◌, ℕ, suc, ◌+◌, List, [], ◌∷◌, ◌++◌, length, map, refl, sym, ap, ◌∙◌, arith, append_assoc, length-append}
 use Rattle.site_run.proofs.Words.{append-nil, get_or_append_left, length-map, cases_lt, get_or-append_seam, all_from, AllAt}
 
 pub all_more : {N X : Type 0} (f : ℕ → N → List X) (i : ℕ) (ns : List N) (n : N) → all_from f i (ns ++ n ∷ []) ≡ all_from f i ns ++ f (i + length ns) n
-all_more f i [] n =
-    let at : i ≡ i + 0 = omega arith in
-    append-nil (f i n) ∙ ap (λ k. f k n) at
-all_more f i (m ∷ ns) n =
-    let at : suc i + length ns ≡ i + length (m ∷ ns) = omega arith in
-    ap (λ l. f i m ++ l) (all_more f (suc i) ns n) ∙ sym (append_assoc (f i m) (all_from f (suc i) ns) (f (suc i + length ns) n)) ∙ ap (λ k. (f i m ++ all_from f (suc i) ns) ++ f k n) at
+all_more f i [] n = grind (arith, append-nil)
+all_more f i (m ∷ ns) n = grind (arith, append_assoc, all_more f (suc i) ns n)
 
 pub all_last : {N X : Type 0} (f : ℕ → N → List X) (ns : List N) (n : N) → all_from f 0 (ns ++ n ∷ []) ≡ all_from f 0 ns ++ f (length ns) n
-all_last f ns n =
-    let at : 0 + length ns ≡ length ns = omega arith in
-    all_more f 0 ns n ∙ ap (λ k. all_from f 0 ns ++ f k n) at
+all_last f ns n = grind (arith, all_more)
 
 -- the last one is at its place, and the others are as they were
 pub all_at_more : {N : Type 0} (Good : ℕ → N → Type 0) (ns new : List N) (n : N) (k : ℕ) → length ns ≡ k → new ≡ ns ++ n ∷ [] → Good k n → AllAt Good ns → AllAt Good new
-all_at_more Good ns new n k len is here all =
-    record {
-      at = λ i d below.
-          let below' : i < length (ns ++ n ∷ []) = subst (λ l. i < length l) is below in
-          subst (λ l. Good i (slice_index_or l i d)) (sym is) (
-          ⊎_elim (λ l. subst (Good i) (sym (get_or_append_left ns (n ∷ []) d i l)) (all.at i d l))
-          (λ ge. (
-          let at : i ≡ length ns = omega (arith, ge, below', length-append ns (n ∷ [])) in
-          subst (λ m. Good m (get_or (ns ++ n ∷ []) m d)) (sym at) (subst (Good (length ns)) (sym (get_or-append_seam ns n [] d)) (subst (λ m. Good m n) (sym len) here))
-          ))
-          (cases_lt i (length ns))
-          );
-    }
+all_at_more Good ns new n k len is here all = grind (arith, get_or_append_left, length-append, get_or-append_seam, cases_lt)
 
 -- one node more is taken apart
 pub parted : {N X : Type 0} (f : ℕ → N → List X) (old new total : List X) (i next : ℕ) (n : N) (ns rest : List N) → new ≡ old ++ f i n → ns ≡ n ∷ rest → next ≡ suc i → old ++ all_from f i ns ≡ total → new ++ all_from f next rest ≡ total

@@ -1,8 +1,8 @@
 -- A node more is made of what there is.
-use Rattle.std.proofs.Common.{◌≡◌, ◌≢◌, ◌⊎◌, inl, inr, ⊎_elim, ℕ, suc, ◌+◌, ◌-◌, ◌*◌, ◌<◌, ◌≤◌, Bool, IsTrue, List, [], ◌∷◌, ◌++◌, length, map, Some, None, refl, sym, ap, ◌∙◌, subst, append_assoc, length-append, arith}
+use Rattle.std.proofs.Common.{◌≡◌, ◌≢◌, ◌⊎◌, inl, inr, ℕ, suc, ◌+◌, ◌*◌, ◌<◌, ◌≤◌, Bool, IsTrue, List, [], ◌∷◌, ◌++◌, length, map, Some, None, refl, sym, ap, ◌∙◌, subst, append_assoc, length-append, arith}
 use Rattle.std.specs.Prelude.{Option}
 use Rattle.std.proofs.lemmas.List.{map-append}
-use Rattle.site_run.proofs.Words.{Config, append-nil, length-map, IsPermutation, IsPermutation-map, IsPermutation-refl, IsPermutation-trans, IsPermutation-append_comm, IsPermutation-append_left, IsPermutation-append_right, IsPermutation-cons, IsPermutation-sym, IsPermutation-to_front, length_permutation, Each, each_more, Mem, other_names, Setting, IsOf, AreKeptPlaces, IsLogOf, IsQueryLog, Disks, Lent, OpenView, Says, each_map, each_unmap, kept_by, lent_all, LentDisk, as_lent, all_from, AnyState, AllAt, IsUpAt, IsDownAt, AreFrom, IsStart, IsRunnable, IsTakenFrom, Makes, StockView, lent_by, cases_lt, clicks_from, count_of, place_of, disks_from, disks_in, logs_in, number_of, queries_from}
+use Rattle.site_run.proofs.Words.{Config, append-nil, length-map, IsPermutation, IsPermutation-map, IsPermutation-trans, IsPermutation-append_comm, IsPermutation-append_left, IsPermutation-append_right, IsPermutation-cons, IsPermutation-sym, IsPermutation-to_front, length_permutation, Each, each_more, Mem, other_names, Setting, IsOf, AreKeptPlaces, IsLogOf, IsQueryLog, Disks, Lent, OpenView, Says, each_map, each_unmap, kept_by, lent_all, LentDisk, as_lent, all_from, AnyState, AllAt, IsUpAt, IsDownAt, AreFrom, IsStart, IsRunnable, IsTakenFrom, Makes, StockView, lent_by, cases_lt, clicks_from, count_of, disks_from, disks_in, logs_in, number_of, queries_from}
 use Rattle.site_run.proofs.Lists.{all_at_more, all_last, no_items}
 use Rattle.site_run.proofs.Taken.{Took, each_took, fewer_took, last_is, moved_took, opened_count, still_all}
 
@@ -67,20 +67,7 @@ sum_less a b c d a' b' c' d' first last (inr less) = omega (arith, first, last, 
 
 -- a server or a replica has one
 one_disk : (k : Config) (i : ℕ) → 2 ≤ i → i < 4 + k.replicas → disks_from k i ≡ 1 + disks_from k (suc i)
-one_disk k i from below =
-    let place : place_of k i ≡ place_of k (suc i) = omega (arith, below) in
-    let first : 2 - i ≡ 2 - suc i = omega (arith, from) in
-    sum_less (2 - i) (2 - (i - 2)) (k.replicas - (i - 4)) (2 * k.joiners - place_of k i) (2 - suc i) (2 - (suc i - 2)) (k.replicas - (suc i - 4)) (2 * k.joiners - place_of k (suc i)) first (ap (λ p. 2 * k.joiners - p) place)
-    (⊎_elim
-    (λ low.
-    let server : 2 - (i - 2) ≡ suc (2 - (suc i - 2)) = omega (arith, from, low) in
-    let none : i - 4 ≡ suc i - 4 = omega (arith, low) in
-    inl (server, ap (λ p. k.replicas - p) none))
-    (λ high.
-    let none : 2 - (i - 2) ≡ 2 - (suc i - 2) = omega (arith, high) in
-    let replica : k.replicas - (i - 4) ≡ suc (k.replicas - (suc i - 4)) = omega (arith, high, below) in
-    inr (none, replica))
-    (cases_lt i 4))
+one_disk k i from below = grind (arith, sum_less, cases_lt)
 
 -- ---- these disks and logs are of the node of this number, and no others are
 
@@ -121,10 +108,7 @@ module _ {D L : Type 0} (bytes : L → List ℕ) (i : ℕ) (old new : StockView 
     start_next g d start =
         let disks = each_took (λ (u : OpenView D). Says g d u.name u.kept) old.rest us new.rest uses.rest (each_unmap (λ k. Says g d k.name k.kept) kept_by old.rest start.records) in
         let clicks = each_took (λ (l : L). IsLogOf (bytes l) g) old.clicks cs new.clicks uses.clicks start.logs.clicks_are in
-        let queries = each_took (λ (l : L). IsQueryLog (bytes l) g.queries) old.queries qs new.queries uses.queries start.logs.queries_are in (
-          (disks.0, clicks.0, queries.0),
-          record { logs = record { numbers = subst (λ c. IsOf c g) (sym uses.config) start.logs.numbers; clicks_are = clicks.1; queries_are = queries.1 }; records = each_map (λ k. Says g d k.name k.kept) kept_by new.rest disks.1; places = start.places },
-        )
+        grind (arith, each_took, each_map)
 
     disks_moved : IsPermutation (lent_all old.rest) (lent_all us ++ lent_all new.rest)
     disks_moved = subst (IsPermutation (lent_all old.rest)) (map-append lent_by us new.rest) (IsPermutation-map lent_by old.rest (us ++ new.rest) (moved_took old.rest us new.rest uses.rest))
@@ -164,16 +148,7 @@ module _ {D L : Type 0} (bytes : L → List ℕ) (i : ℕ) (old new : StockView 
 
   -- one disk of a server or of a replica
   pub one_used : (a : OpenView D) → 2 ≤ i → i < 4 + old.config.replicas → new.config ≡ old.config → IsTakenFrom old.rest a new.rest → number_of old.config a.name ≡ i → old.clicks ≡ new.clicks → old.queries ≡ new.queries → Uses (a ∷ []) [] []
-  one_used a from below config taken own clicks queries = record {
-    config = config;
-    rest = (new.rest, taken, refl);
-    clicks = clicks;
-    queries = queries;
-    own = (own, tt);
-    disk_count = one_disk old.config i from below;
-    click_count = omega (arith, from);
-    query_count = omega (arith, below);
-  }
+  one_used a from below config taken own clicks queries = grind (arith, one_disk)
 
   -- two disks and a log of a joiner
   pub two_used : (a b : OpenView D) (log : L) (mid : List (OpenView D)) → 4 + old.config.replicas ≤ i → i < count_of old.config → new.config ≡ old.config → IsTakenFrom old.rest a mid → IsTakenFrom mid b new.rest → number_of old.config a.name ≡ i → number_of old.config b.name ≡ i
@@ -191,16 +166,7 @@ module _ {D L : Type 0} (bytes : L → List ℕ) (i : ℕ) (old new : StockView 
 
 -- all are to come
 pub at_first : {D L : Type 0} (l : StockView D L) → IsRunnable l.config → map (λ (o : OpenView D). o.name) l.rest ≡ other_names l.config.joiners l.config.replicas → length l.clicks ≡ 2 → length l.queries ≡ 2 * l.config.joiners → (l.disks ≡ []) × (l.logs ≡ []) → AreFrom 0 l
-at_first l ranges named clicks queries none =
-    let size = opened_count l.config.joiners l.config.replicas l.rest named in
-    record {
-      ranges = ranges;
-      there = λ n among from. subst (Mem n) (sym named) among;
-      disks = omega (arith, size);
-      clicks = omega (arith, clicks);
-      queries = omega (arith, queries);
-      none = none;
-    }
+at_first l ranges named clicks queries none = grind (arith, opened_count)
 
 -- ---- one node after the other
 
@@ -216,20 +182,7 @@ module _ {N D L : Type 0} (number : N → ℕ) (waits : N → Bool) (places : N 
 
   -- none yet
   pub none_made : (nodes : List N) → nodes ≡ [] → AreFrom 0 start → AreMade nodes start
-  none_made nodes none left = subst (λ l. AreMade l start) (sym none) (record {
-    config = refl;
-    left = left;
-    up = none_at;
-    over = λ t g d begins. (begins, none_at);
-    disks = subst (λ l. IsPermutation (lent_all start.rest) ((map as_lent l ++ lent_all start.rest) ++ [])) (sym left.none.0) (bare (lent_all start.rest));
-    logs = subst (λ l. IsPermutation (start.clicks ++ start.queries) ((l ++ (start.clicks ++ start.queries)) ++ [])) (sym left.none.1) (bare (start.clicks ++ start.queries));
-  })
-    where
-      none_at : {Good : ℕ → N → Type 0} → AllAt Good []
-      none_at = record { at = λ i d below. absurd (omega (arith, below)) }
-
-      bare : {X : Type 0} (xs : List X) → IsPermutation xs (xs ++ [])
-      bare xs = subst (IsPermutation xs) (sym (append-nil xs)) (IsPermutation-refl xs)
+  none_made nodes none left = grind (arith, append-nil)
 
   pub from_at : (nodes : List N) (now : StockView D L) (k : ℕ) → AreMade nodes now → length nodes ≡ k → AreFrom k now
   from_at nodes now k so at = subst (λ m. AreFrom m now) at so.left
@@ -242,17 +195,7 @@ module _ {N D L : Type 0} (number : N → ℕ) (waits : N → Bool) (places : N 
     pub held : IsPermutation (lent_all start.rest) (all_from (disks_of start.config) 0 nodes)
 
   pub ended : (nodes : List N) (now : StockView D L) → AreMade nodes now → length nodes ≡ count_of start.config → IsEnded nodes now
-  ended nodes now so all =
-      let j = ap (λ c. c.joiners) so.config in
-      let r = ap (λ c. c.replicas) so.config in
-      let rest : length now.rest ≡ 0 = omega (arith, so.left.disks, all, j, r) in
-      record {
-        rest = rest;
-        clicks = omega (arith, so.left.clicks, all);
-        queries = omega (arith, so.left.queries, all, j, r);
-        held = subst (λ l. IsPermutation (lent_all start.rest) (lent_all l ++ all_from (disks_of start.config) 0 nodes)) (no_items now.rest rest)
-            (subst (λ l. IsPermutation (lent_all start.rest) ((map as_lent l ++ lent_all now.rest) ++ all_from (disks_of start.config) 0 nodes)) so.left.none.0 so.disks);
-      }
+  ended nodes now so all = grind (arith, no_items)
 
   module _ (nodes : List N) (old new : StockView D L) (so : AreMade nodes old) where
     step_at : (made : Option N) (k : ℕ) → length nodes ≡ k → Makes number waits places disks_of logs_of tells bytes k old made new → Makes number waits places disks_of logs_of tells bytes (length nodes) old made new

@@ -1,5 +1,5 @@
 -- Disks that are out, while they go on and once they are given back.
-use Rattle.std.proofs.Common.{◌≡◌, inl, inr, ⊎_elim, ℕ, List, [], ◌∷◌, ◌++◌, Result, Ok, Err, refl, sym, ◌∙◌, ap, subst, append_assoc, ◌≢◌}
+use Rattle.std.proofs.Common.{inl, inr, ⊎_elim, ℕ, List, [], ◌∷◌, Result, Ok, Err, refl, sym, ◌∙◌, subst, append_assoc, ◌≢◌, arith}
 use Rattle.site_run.proofs.Words.{append-nil, IsPermutation, All-permutation, IsPermutation-sym, All-from_recursion, recursion_from_All, Each, Mem, DiskName, Within, gate_rule, Continues, Extends, Lent, Lacks, MayBeLeft, GoesOn, StaysAs, each_mem, HaveGoneOn, Images, AreOut}
 
 -- ---- records that were only added to
@@ -9,10 +9,7 @@ extends_same (Ok rs) = ([], sym (append-nil rs))
 extends_same (Err at) = refl
 
 extends_on : (a b c : Result (List (List ℕ)) ℕ) → Extends a b → Extends b c → Extends a c
-extends_on (Ok a) (Ok b) (Ok c) x y = (x.0 ++ y.0, y.1 ∙ ap (λ l. l ++ y.0) x.1 ∙ append_assoc a x.0 y.0)
-extends_on (Ok a) (Ok b) (Err c) x y = absurd y
-extends_on (Ok a) (Err b) c x y = absurd x
-extends_on (Err a) b c x y = subst (λ (r : Result (List (List ℕ)) ℕ). Extends r c → c ≡ Err a) (sym x) (λ e. e) y
+extends_on a b c x y = grind (arith, append_assoc)
 
 pub goes_on_through : (old mid new : List ℕ → Type 0) → GoesOn old mid → GoesOn mid new → GoesOn old new
 goes_on_through old mid new first then_ c here =
@@ -24,9 +21,7 @@ pub goes_on_within : (old new : List ℕ → Type 0) → Within old new → Goes
 goes_on_within old new within c here = (c, within c here, extends_same (gate_rule c))
 
 pub stays_goes_on : (old new : List ℕ → Type 0) → StaysAs old new → GoesOn old new
-stays_goes_on old new stays c here =
-    let o = stays c here in
-    (o.0, o.1, subst (Extends (gate_rule o.0)) (sym o.2) (extends_same (gate_rule o.0)))
+stays_goes_on old new stays c here = grind (arith, extends_same)
 
 -- ---- lists in another order
 

@@ -1,6 +1,6 @@
 -- Each node is at the place of its number.
-use Rattle.std.proofs.Common.{◌≡◌, ℕ, ◌+◌, ◌*◌, List, length, slice_index_or, sym, ap, ◌∙◌, subst, arith}
-use Rattle.site_run.proofs.Words.{some_same, Node, Setting, IsNode, NumbersAreNodes, node_count, node_number, node_of, Disks, KeptOf, kept_of, down_over, IsOf, AnyState, any_of, down_with, AreDownOver, AllAt, IsDownAt, Config, joiner_of}
+use Rattle.std.proofs.Common.{◌≡◌, ℕ, ◌+◌, ◌*◌, List, length, sym, ap, ◌∙◌, subst, arith}
+use Rattle.site_run.proofs.Words.{some_same, Node, Setting, IsNode, NumbersAreNodes, node_count, node_number, node_of, Disks, KeptOf, kept_of, IsOf, AnyState, any_of, down_with, AreDownOver, AllAt, IsDownAt, Config, joiner_of}
 use Rattle.site_run.proofs.Naming.{IsSeat, same_numbers}
 
 -- the node of this number is down over what its disks keep
@@ -17,6 +17,4 @@ same_node : (g : Setting) → NumbersAreNodes g → (m n : Node) → IsNode g m 
 same_node g law m n m_is n_is same = some_same m n (sym (law.of_number m m_is) ∙ ap (node_of g) same ∙ law.of_number n n_is)
 
 pub are_down_over : {N : Type 0} (places : N → AnyState → Type 0) (g : Setting) (d : Disks) → NumbersAreNodes g → (nodes : List N) → length nodes ≡ node_count g → AllAt (IsDownAt places g d) nodes → AreDownOver places g d nodes
-are_down_over places g d law nodes count all n is a =
-    let here = all.at (node_number n) a (omega (arith, count, law.below n is)) in
-    subst (λ m. places (slice_index_or nodes (node_number n) a) (any_of m (down_over g d m))) (same_node g law here.of n here.is is here.at) here.down
+are_down_over places g d law nodes count all n is a = grind (arith, same_node)

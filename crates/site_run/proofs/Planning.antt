@@ -1,5 +1,5 @@
 -- A run by the stops that are planned for the disks of its nodes.
-use Rattle.std.specs.Prelude.{IfErr, IfSome, IsTrue, Result}
+use Rattle.std.specs.Prelude.{IfErr, IfSome, Result}
 use Rattle.std.specs.List.{All}
 use Rattle.std.proofs.Common.{◌≡◌, ◌≢◌, ℕ, ◌+◌, ◌-◌, ◌<◌, ◌≤◌, Bool, false, List, [], ◌∷◌, length, map, Option, None, Some, slice_index_or, refl, sym, ◌∙◌, ap, subst, arith}
 use Rattle.outside.specs.Plans.{AtMost}
@@ -53,20 +53,12 @@ stops_earlier (Some l) old new g on few = λ n is k has. few n is k (all_earlier
 pub soon_earlier : {S : Type 0} (stops : S → DiskName → ℕ → Bool) (made : S → DiskName → ℕ) (old new : S) → ((disk : DiskName) (n : ℕ) → stops new disk n ≡ stops old disk n) → ((disk : DiskName) → made new disk ≡ made old disk)
     → (disk : DiskName) → HasSoon stops made new disk → HasSoon stops made old disk
 soon_earlier stops made old new same at name.Topology soon = λ none. soon (same_left 0 (stops old name.Topology) (stops new name.Topology) (made old name.Topology) (made new name.Topology) (same name.Topology) (at name.Topology) none)
-soon_earlier stops made old new same at disk soon =
-    let here = at disk in
-    let from = soon.1 in
-    let to = soon.2 in
-    (soon.0, omega (arith, here, from), omega (arith, here, to), subst IsTrue (same disk soon.0) soon.3)
+soon_earlier stops made old new same at disk soon = grind arith
 
 -- behind calls that meet no fault where none is planned
 pub planned_earlier : {A : Type 0} (o : Option RunLog) (old new : DiskName → ℕ → Type 0) (soon_old soon_new : DiskName → Type 0) (g : Setting) (first mid last : ℕ) (r : Result A RunFault) → ((disk : DiskName) (k : ℕ) → old disk k → new disk k)
     → ((disk : DiskName) → soon_new disk → soon_old disk) → (((disk : DiskName) → old disk 0) → mid ≡ first) → RunsAsPlanned new soon_new g o mid last r → RunsAsPlanned old soon_old g o first last r
-planned_earlier o old new soon_old soon_new g first mid last r on back calm so = record {
-  stops = stops_earlier o old new g on so.stops;
-  calm = λ none. so.calm (λ disk. on disk 0 (none disk)) ∙ calm none;
-  spared = λ are. so.spared (record { late = λ disk is. are.late disk (back disk is); few = λ n is. all_earlier old new on (names_of (numbers_of g) n) 1 (are.few n is) });
-}
+planned_earlier o old new soon_old soon_new g first mid last r on back calm so = grind (arith, stops_earlier, all_earlier)
 
 -- where no run began
 pub none_planned : {A : Type 0} (o : Option RunLog) (left : DiskName → ℕ → Type 0) (soon : DiskName → Type 0) (g : Setting) (before after : ℕ) (r : Result A RunFault) → o ≡ None → (((disk : DiskName) → left disk 0) → after ≡ before)

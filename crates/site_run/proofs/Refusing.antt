@@ -1,13 +1,15 @@
 -- Why a run over a store gives up, from what opening it tells and what a run of its nodes does.
-use Rattle.std.specs.Prelude.{IsTrue, IsSomeAnd, Result, Ok, Err, OnOk, IfErr, ⊤}
-use Rattle.std.proofs.Common.{◌≡◌, ◌≢◌, inl, inr, ⊎_elim, ℕ, ◌+◌, ◌-◌, ◌≤◌, ◌<◌, ◌==◌, if◌then◌else◌, List, [], ◌∷◌, map, Bool, true, false, Option, Some, None, refl, sym, ◌∙◌, ap, subst, arith}
-use Rattle.site_run.proofs.Words.{eq-eqb, le-ltb, lt-ltb, Each, Mem, each_at, BusEntry, DiskName, StoreFault, Topology, end_from, Dispatcher, Server, Replica, Joiner, Node, IsNode, node_number, Setting, IsLogOf, Disks, RunFault, Misplaced, IsCounted, IsWelcome, of_place, limit_at, limit_in, IsKeptIn, IsJournalOf, other_names, Images, IsDisk, joiner_of, place_at, site_of, IsAsked, EpochIs, KeepsEpoch, KeptDisk, KeptEpoch, KeptValues, Says, AreRecordsOf, all_named, at_name, was_journal, AreTold, ArePassed, HasCause, HasFailed, PassesFor, IsCause, IsUnread, cause_more, failed_rose, passed_more, unread_rose, asked_of, HasPassed, IsCauseOf, IsLate, IsNearLast, IsOfRun, IsSpent, KeptAreJournals, RunLog, TellsPlaces, epochs_of, Config, numbers_of}
+use Rattle.std.specs.Prelude.{IsTrue, IfSome, IsSomeAnd, Result, Ok, Err, OnOk, IfErr, ⊤}
+use Rattle.std.proofs.Common.{◌≡◌, ◌≢◌, inl, inr, ⊎_elim, ℕ, ◌==◌, if◌then◌else◌, List, [], ◌∷◌, map, Bool, true, false, Option, Some, None, refl, sym, ◌∙◌, ap, subst, arith}
+use Rattle.site_run.proofs.Words.{eq-eqb, Each, Mem, each_at, BusEntry, DiskName, StoreFault, Topology, end_from, Dispatcher, Server, Replica, Joiner, Node, IsNode, node_number, Setting, IsLogOf, Disks, RunFault, Misplaced, IsCounted, IsWelcome, of_place, limit_at, limit_in, IsKeptIn, IsJournalOf, other_names, Images, IsDisk, joiner_of, place_at, site_of, IsAsked, EpochIs, KeepsEpoch, KeptDisk, KeptEpoch, KeptValues, Says, AreRecordsOf, all_named, at_name, was_journal, AreTold, ArePassed, HasCause, HasFailed, IsCause, IsUnread, cause_more, failed_rose, passed_more, unread_rose, asked_of, HasPassed, IsCauseOf, IsLate, IsNearLast, IsOfRun, IsSpent, KeptAreJournals, NamesFailed, RunLog, TellsPlaces, disk_of, numbers_of}
 use Rattle.outside.specs.declared.store.DiskName.TheVariants as name
 use Rattle.outside.specs.declared.faults.StoreFault.TheVariants as store
 use Rattle.run_fault.specs.declared.fault.StorePlace.{StorePlace}
 use Rattle.run_fault.specs.declared.fault.StorePlace.TheVariants as place
 use Rattle.run_fault.specs.declared.fault.RunFault.TheVariants as fault
 use Rattle.site_store.specs.Misfits.{or_else}
+use Rattle.site_node.specs.declared.kind.NodeDisk.TheVariants.{First}
+use Rattle.site_run.proofs.Naming.{disk_is}
 use Rattle.site_run.proofs.Places.{of_setting, owner}
 use Rattle.site_store.specs.Records.{AreKept, IsKept, KeepsAs}
 use Rattle.site_store.specs.Records as kinds
@@ -36,11 +38,7 @@ module _ (g : Setting) (before : Images) (asked : Topology) (is : IsAsked asked 
   over_log disks told against = against log_sure g log_is end_is
 
   pub passed_so : (k : KeptValues) → AreKept tells before replicas asked.joiners k → ArePassed log_tells log end_ (Some asked) k → HasPassed g before
-  passed_so k are passed =
-      subst (λ t. PassesFor t before g.replicas (Some (asked_of g)) (TellsPlaces g)) sure
-      (subst (λ (a : Topology). PassesFor tells before g.replicas (Some a) (TellsPlaces g)) same_asked
-      (subst (λ n. PassesFor tells before n (Some asked) (TellsPlaces g)) (sym count)
-      (passed_more tells replicas (Some asked) before before (λ disk c now. now) (AreTold log_tells log end_) (TellsPlaces g) over_log (k, are, passed))))
+  passed_so k are passed = grind (arith, same_asked, passed_more, over_log)
 
   pub refused_so : (rose store_rose read faulted : Type 0) → (rose → read) → (store_rose → faulted) → (f : RunFault) → IsCause tells before replicas store_rose log_tells log end_ rose (Some asked) f → IsCauseOf g before read faulted f
   refused_so rose store_rose read faulted to_read to_faulted f cause =
@@ -54,14 +52,7 @@ module _ (g : Setting) (before : Images) (asked : Topology) (is : IsAsked asked 
 -- its count rose, of the logs or of the disks
 pub refusal_counted : (tells : Bool) (before : Images) (replicas : ℕ) (rose : Type 0) (log_tells : Bool) (log : List ℕ) (end_ : ℕ) (read : Type 0) (asked : Option Topology) (logs stores : Type 0) → (read → logs) → (rose → stores)
     → (f : RunFault) → IsCause tells before replicas rose log_tells log end_ read asked f → IsCounted logs stores f
-refusal_counted tells before replicas rose log_tells log end_ read asked logs stores to_logs to_stores (fault.Read l) is = to_logs (unread_rose tells before replicas asked (AreTold log_tells log end_) read l is)
-refusal_counted tells before replicas rose log_tells log end_ read asked logs stores to_logs to_stores (fault.Store at) is = to_stores (failed_rose tells before replicas asked (AreTold log_tells log end_) rose at is)
-refusal_counted tells before replicas rose log_tells log end_ read asked logs stores to_logs to_stores (fault.Damaged disk at) is = tt
-refusal_counted tells before replicas rose log_tells log end_ read asked logs stores to_logs to_stores (fault.Topology what) is = tt
-refusal_counted tells before replicas rose log_tells log end_ read asked logs stores to_logs to_stores (fault.Limit disk value) is = tt
-refusal_counted tells before replicas rose log_tells log end_ read asked logs stores to_logs to_stores fault.Memory is = tt
-refusal_counted tells before replicas rose log_tells log end_ read asked logs stores to_logs to_stores fault.Write is = absurd is.0
-refusal_counted tells before replicas rose log_tells log end_ read asked logs stores to_logs to_stores _ is = absurd is
+refusal_counted tells before replicas rose log_tells log end_ read asked logs stores to_logs to_stores f is = grind (arith, unread_rose, failed_rose)
 
 -- ---- no epoch that was opened is the last one
 
@@ -81,15 +72,6 @@ none_at (o ∷ os) none d (inr m) = none_at os (both_none (limit_at o.name o.kep
 not_last : (n : DiskName) (epoch : ℕ) → limit_at n (EpochIs epoch) ≡ None → epoch ≢ 4294967294
 not_last n epoch none last = absurd (cc (sym (eq-eqb epoch 4294967294 last) ∙ (rest_none (epoch == 4294967294) (fault.Limit n 4294967294) None none).0))
 
--- the disk of a node's epochs
-epochs_of_server : (k : Config) (s : ℕ) → s < 2 → epochs_of k (2 + s) ≡ name.Server s
-epochs_of_server k s few =
-    let at : 2 + s - 2 ≡ s = omega arith in
-    ap (λ (b : Bool). if b then name.Server (2 + s - 2) else name.Epoch (site_of k (2 + s)) (place_at k (2 + s))) (lt-ltb (2 + s) (4 + k.replicas) (omega (arith, few))) ∙ ap name.Server at
-
-epochs_of_joiner : (k : Config) (j : ℕ) → 4 + k.replicas ≤ j → epochs_of k j ≡ name.Epoch (site_of k j) (place_at k j)
-epochs_of_joiner k j many = ap (λ (b : Bool). if b then name.Server (j - 2) else name.Epoch (site_of k j) (place_at k j)) (le-ltb j (4 + k.replicas) many)
-
 module _ (g : Setting) (before : Images) (disks : List KeptDisk) (limits : limit_in disks ≡ None) (kept : Each (IsKept before) disks) (d : Disks) (records : AreRecordsOf g disks d)
     (named : map (λ (k : KeptDisk). k.name) disks ≡ other_names g.joiners g.replicas) where
   -- a disk that kept an epoch kept none that is the last one
@@ -104,15 +86,15 @@ module _ (g : Setting) (before : Images) (disks : List KeptDisk) (limits : limit
         subst (λ (m : DiskName). IsKeptIn (before m) (KeepsEpoch epoch)) o.2 (subst (λ k. IsKeptIn (before o.0.name) (KeepsAs k)) is (each_at (IsKept before) disks kept o.0 o.1)),
       )
 
-  of_node : (n : Node) (epoch : ℕ) → IsNode g n → KeptEpoch d n epoch → KeptLess (epochs_of (numbers_of g) (node_number n)) epoch
+  of_node : (n : Node) (epoch : ℕ) → IsNode g n → KeptEpoch d n epoch → KeptLess (disk_of (numbers_of g) (node_number n) First) epoch
   of_node (Dispatcher s) epoch is had = absurd had
-  of_node (Server s) epoch is had = subst (λ m. KeptLess m epoch) (sym (epochs_of_server (numbers_of g) s is)) (of_disk (name.Server s) epoch is (λ e. cc e) (λ k says. says ∙ ap EpochIs had))
+  of_node (Server s) epoch is had = subst (λ m. KeptLess m epoch) (sym (disk_is g (Server s) is First)) (of_disk (name.Server s) epoch is (λ e. cc e) (λ k says. says ∙ ap EpochIs had))
   of_node (Replica r) epoch is had = absurd had
   of_node (Joiner j) epoch is had =
       let site = site_of (numbers_of g) j in
       let seat = place_at (numbers_of g) j in
       let number : joiner_of g site seat ≡ j = cc (owner g (Joiner j) (name.Epoch site seat) is (refl, refl)) in
-      subst (λ m. KeptLess m epoch) (sym (epochs_of_joiner (numbers_of g) j is.0))
+      subst (λ m. KeptLess m epoch) (sym (disk_is g (Joiner j) is First))
       (of_disk (name.Epoch site seat) epoch (of_setting g (Joiner j) (name.Epoch site seat) is (refl, refl)) (λ e. cc e) (λ k says. says ∙ ap EpochIs (ap (λ m. (d.joiners m).epoch) number ∙ had)))
 
   -- so a node that came to it has met a fault, and its disk kept one near it
@@ -145,13 +127,13 @@ module _ (g : Setting) (before : Images) (disks : List KeptDisk) (limits : limit
   cause_so ran read faulted rose more fault.Memory counted of = tt
   cause_so ran read faulted rose more _ counted of = absurd of
 
+-- it names what failed by the history
+pub named_so : (g : Setting) (d : Disks) (rose : Type 0) (ran : Option RunLog) (f : RunFault) → IsOfRun g d rose ran f → IfSome ran (λ l. NamesFailed g l.air.history f)
+named_so g d rose ran f of = grind arith
+
 -- and it is none for which a sound store would be refused
 pub welcome_so : (g : Setting) (d : Disks) (rose holds : Type 0) (ran : Option RunLog) (f : RunFault) → IsOfRun g d rose ran f → IsWelcome holds f
-welcome_so g d rose holds ran (fault.Read log) of = tt
-welcome_so g d rose holds ran (fault.Store at) of = tt
-welcome_so g d rose holds ran (fault.Limit disk value) of = tt
-welcome_so g d rose holds ran fault.Memory of = tt
-welcome_so g d rose holds ran _ of = absurd of
+welcome_so g d rose holds ran f of = grind arith
 
 -- ---- of logs that aren't opened, and a store that isn't placed
 
@@ -184,9 +166,7 @@ module _ (g : Setting) (before placed : Images) (within : (disk : DiskName) (c :
   late_within faulted rose more _ late = absurd late
 
   pub cause_within : (files read faulted rose : Type 0) → (files → read) → (rose → faulted) → (f : RunFault) → IsCauseOf g placed files rose f → IsCauseOf g before read faulted f
-  cause_within files read faulted rose earlier more f =
-      cause_more true g.replicas (Some (asked_of g)) placed before within (TellsPlaces g) (TellsPlaces g) (λ disks m told. told) (λ log. files) (λ log. read) (λ at. rose) (λ at. faulted) (IsLate g placed rose f) (IsLate g before faulted f) ⊤ ⊤
-      (λ log. earlier) (λ at. more) (late_within faulted rose more f) (λ x. x) f
+  cause_within files read faulted rose earlier more f = grind (arith, cause_more, late_within)
 
 -- ---- what is kept of a disk that is opened is a journal of its kind
 

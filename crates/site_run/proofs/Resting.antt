@@ -1,5 +1,5 @@
 -- A node without an open turn keeps on each of its disks alone what its state says.
-use Rattle.std.proofs.Common.{◌≡◌, ⊎_elim, ℕ, List, Option, Some, None, refl, ap, subst}
+use Rattle.std.proofs.Common.{◌≡◌, ℕ, List, Option, Some, None, refl, arith}
 use Rattle.site_run.proofs.Words.{Each, JournalState, Ready, KeepsOffset, KeepsPending, KeepsEpoch, KeepsPairs, Node, Dispatcher, Server, Replica, Joiner, node_number, Config, DispatchNote, DispatcherState, RegistrarView, ServerState, VoterView, ReplicaState, IsVoted, JoinerState, Doubt, StateOf, OneOf, AnyState, any_of, KeepsVotes, HasSpelledNotes, IsClosed, KeepsAs}
 use Rattle.dispatch_node.specs.Node as dispatcher
 use Rattle.registry_server.specs.Node as server
@@ -20,11 +20,7 @@ module _ (p : dispatcher.Parts) (oi ri : List ℕ → Type 0) (s : DispatcherSta
 
   dispatcher_by : (d : Option (DispatchNote × List ℕ)) → dispatcher.StandsBy d p oi ri s → (p.offset_state ≡ Ready → (c : List ℕ) → oi c → KeepsOffset p.offset c)
       → (p.retry_state ≡ Ready → (c : List ℕ) → ri c → KeepsPending p.pending c) → BothKept
-  dispatcher_by None by o r = (
-    λ c here. subst (λ (n : ℕ). KeepsOffset n c) (ap (λ k. k.offset) by.0.kept) (o by.0.offset_ready c here),
-    λ c here. subst (λ (l : List ℕ). KeepsPending l c) (ap (λ k. k.pending) by.0.kept) (r by.0.retry_ready c here),
-  )
-  dispatcher_by (Some d) by o r = absurd (not_open s.node.opened by.1.begun by.1.opened closed)
+  dispatcher_by d by o r = grind (arith, not_open)
 
   pub dispatcher_rests : dispatcher.StandsAt p oi ri s → (p.offset_state ≡ Ready → (c : List ℕ) → oi c → KeepsOffset p.offset c)
       → (p.retry_state ≡ Ready → (c : List ℕ) → ri c → KeepsPending p.pending c) → BothKept
@@ -51,11 +47,7 @@ module _ (p : joiner.Parts) (ei pi : List ℕ → Type 0) (s : JoinerState) (clo
   PairKept = ((c : List ℕ) → ei c → KeepsEpoch s.node.kept.epoch c) × ((c : List ℕ) → pi c → KeepsPairs s.node.kept.pairs c)
 
   joiner_by : (d : Option Doubt) → joiner.StandsBy d p ei pi s → PairKept
-  joiner_by None by = (
-    λ c here. ⊎_elim (λ k. k) (λ k. k) (by.0.images.epochs_or c here),
-    λ c here. ⊎_elim (λ k. k) (λ k. k) (by.0.images.pairs_or c here),
-  )
-  joiner_by (Some d) by = absurd (not_open s.node.opened by.begun by.opened closed)
+  joiner_by d by = grind (arith, not_open)
 
   pub joiner_rests : joiner.StandsAt p ei pi s → PairKept
   joiner_rests at = joiner_by p.in_doubt at.by

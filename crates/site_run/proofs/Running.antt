@@ -1,14 +1,17 @@
 -- From what a run leaves of each node to what it leaves of the store.
 use Rattle.std.specs.Prelude.{IsTrue, IsSome, option_map}
-use Rattle.std.proofs.Common.{◌≡◌, ◌≢◌, inr, ⊎_elim, ℕ, zero, suc, ◌+◌, ◌<◌, ◌≤◌, List, [], ◌∷◌, ◌++◌, length, map, slice_index_or, Bool, true, false, Option, None, Some, refl, sym, ap, ◌∙◌, subst, arith, length-append}
-use Rattle.site_run.proofs.Words.{list_any, Mem, some_same, DiskName, BusEntry, Begin, End, Stop, Bytes, Busy, Node, Dispatcher, Server, Replica, Joiner, Setting, IsNode, NumbersAreNodes, node_number, node_count, phase_by, NodeFault, World, Disks, disks, world_after, opening, NoJoinerStops, AreOf, RunFault, damaged_by, IsJournalOf, undamaged, Lent, IsOfOne, MayBeLeft, GoesOn, StateOf, kept_of, cell_of, made_by, HasMet, IsCaused, is_stop, stop_count, AreCaused, HasFault, AnyState, any_of, any_phase, IsRunFrom, HaveGrown, ComesToLast, all_from, topology_of, Images, IsDisk, AreKept, KeepsOf, KeepsTopology, Journals, Config, IsOf, votes_are_notes, IsCounted, of_node, IsOfDisks, IsOfRun, IsSpent, RunLog, epochs_of, HoldsAs, HaveGoneOn, AllHold, AreHeld, AreMet, IsLeftBy, KeepsItsRecord, NoneStops, HasRun, HasRested, AreOut, IsClosed, KeepsAs, AllKeep, KeepsPairs, KeepsNotes, HoldSameRecords, ReadNotesAreKept, told_of, or_else, first_fault, lent_replicas, lent_outputs, AreKeptIn}
+use Rattle.std.proofs.Common.{◌≡◌, ◌≢◌, inl, inr, ⊎_elim, ℕ, zero, suc, ◌+◌, ◌<◌, ◌≤◌, List, [], ◌∷◌, ◌++◌, length, map, slice_index_or, Bool, true, false, Option, None, Some, refl, sym, ap, ◌∙◌, subst, arith, length-append}
+use Rattle.site_run.proofs.Words.{list_any, Mem, some_same, is_in_turn, DiskName, NamesFailed, disk_of, is_read, BusEntry, Begin, End, Stop, Bytes, Busy, Node, Dispatcher, Server, Replica, Joiner, Setting, IsNode, NumbersAreNodes, node_number, node_count, phase_by, NodeFault, World, Disks, disks, world_after, opening, NoJoinerStops, AreOf, RunFault, damaged_by, IsJournalOf, undamaged, Lent, IsOfOne, MayBeLeft, GoesOn, StateOf, kept_of, cell_of, made_by, HasMet, IsCaused, is_stop, stop_count, AreCaused, HasFault, AnyState, any_of, any_phase, IsRunFrom, HaveGrown, ComesToLast, all_from, topology_of, Images, IsDisk, AreKept, KeepsOf, KeepsTopology, Journals, Config, IsOf, votes_are_notes, IsCounted, of_node, IsOfDisks, IsOfRun, IsSpent, RunLog, numbers_of, HoldsAs, HaveGoneOn, AllHold, AreHeld, AreMet, IsLeftBy, KeepsItsRecord, NoneStops, HasRun, HasRested, AreOut, IsClosed, KeepsAs, AllKeep, KeepsPairs, KeepsNotes, HoldSameRecords, ReadNotesAreKept, told_of, or_else, first_fault, lent_replicas, lent_outputs, AreKeptIn}
 use Rattle.outside.specs.declared.store.DiskName.TheVariants as name
 use Rattle.site_node.specs.declared.kind.NodeFault.TheVariants as node
 use Rattle.run_fault.specs.declared.fault.StorePlace.TheVariants as at
 use Rattle.topology_journal.specs.Topologies as journal
 use Rattle.photon_model.specs.Topology.{Topology}
 use Rattle.site_run.proofs.Going.{all_nodes_gone_on}
-use Rattle.site_run.proofs.Naming.{same_numbers}
+use Rattle.site_run.proofs.Naming.{disk_among, log_is, same_numbers}
+use Rattle.site_node.specs.declared.kind.NodeDisk.TheVariants.{First}
+use Rattle.site_node.specs.declared.kind.SiteNode.{Ghosts}
+use Rattle.site_run.specs.Naming.{names_of}
 use Rattle.site_run.proofs.Keeping.{keeps, none_lacks, disk_there, topology_image}
 use Rattle.site_run.proofs.Outing.{given_goes_on, gone_out}
 use Rattle.site_run.proofs.Places.{at_place}
@@ -180,8 +183,8 @@ module _ {N D : Type 0} (image : D → List ℕ → Type 0) (places : N → AnyS
 
   -- ---- unless a disk met a fault no joiner has stopped
 
-  module _ {L : Type 0} (disk_faults : D → ℕ) (log_faults : L → ℕ) (faults read_faults : N → ℕ) (waits : N → Bool) (logs_of : N → List L) (met : AreMet disk_faults log_faults faults read_faults disks_of logs_of) where
-    pub no_stops : NoneStops → ((i : ℕ) (b : N × Option NodeFault) → i < length ws → HasMet faults waits (slice_index_or ws i b).0 (slice_index_or ws i b).1 (made_by i h)) → (faulted : Type 0)
+  module _ {L : Type 0} (disk_faults : D → ℕ) (log_faults : L → ℕ) (m : Ghosts N) (logs_of : N → List L) (met : AreMet disk_faults log_faults m places disks_of logs_of) where
+    pub no_stops : NoneStops → ((i : ℕ) (b : N × Option NodeFault) → i < length ws → HasMet m.faults m.waits (slice_index_or ws i b).0 (slice_index_or ws i b).1 (made_by i h)) → (faulted : Type 0)
         → ((l : Lent D) → Mem l (topology ∷ all_from disks_at 0 ws) → 1 ≤ disk_faults l.disk → faulted) → (faulted → ⊥) → NoJoinerStops left.entries
     no_stops law stopped faulted rises never =
         law g d h left.at left.entries left.run
@@ -197,7 +200,7 @@ module _ {N D : Type 0} (image : D → List ℕ → Type 0) (places : N → AnyS
     -- at rest whatever a stop leaves of a disk is a journal of its kind
     undamaged_now : (disk : DiskName) (at : ℕ) (c : List ℕ) → disk ≢ name.Topology → IsOfOne image (topology ∷ all_from disks_at 0 ws) disk c → damaged_by disk c at → ⊥
     undamaged_now disk at c other here =
-        let is = disk_there image disks_at g left.at ws topology numbers hold kept.named disk other c here in
+        let is = disk_there image disks_at g left.at ws topology numbers hold kept.named disk other here.one here.among here.named in
         undamaged disk c at (journal_of g (disks (world_after g (opening d) left.entries)) disk other is c
         (all_keep image disks_at g left.at ws topology numbers (keep resting) kept.named (disks (world_after g (opening d) left.entries)) (same resting) disk is c here))
 
@@ -211,14 +214,18 @@ module _ {N D : Type 0} (image : D → List ℕ → Type 0) (places : N → AnyS
     never_damaged (name.Output s j) at c here = undamaged_now (name.Output s j) at c (λ e. absurd (cc e)) here
 
     -- so a fault of reading them back is none of damage
-    pub read_back_of : (ran : Option RunLog) (faulted : Type 0) (f : RunFault) → (tells : Bool) → IsTrue tells → IsOfDisks tells image (topology ∷ all_from disks_at 0 ws) faulted f → IsOfRun g d faulted ran f
-    read_back_of ran faulted (run.Store (at.Disk disk)) tells sure of = tt
-    read_back_of ran faulted (run.Damaged disk at) tells sure of = let x = of sure in never_damaged disk at x.0 x.1 x.2
-    read_back_of ran faulted run.Memory tells sure of = tt
-    read_back_of ran faulted _ tells sure of = absurd of
+    pub read_back_of : (log : RunLog) → log.air.history ≡ h → (faulted : Type 0) (f : RunFault) → (tells : Bool) → IsTrue tells → IsOfDisks tells image (topology ∷ all_from disks_at 0 ws) faulted f → IsOfRun g d faulted (Some log) f
+    read_back_of log same faulted (run.Store (at.Disk disk)) tells sure of =
+        let read = of.0.0 in
+        let other : disk ≢ name.Topology = λ e. absurd (cc (sym (ap is_read e) ∙ read)) in
+        subst (λ l. NamesFailed g l (run.Store (at.Disk disk))) (sym same)
+        (inr (left.still resting, disk_there image disks_at g left.at ws topology numbers hold kept.named disk other of.0.1 of.0.2 of.0.3, read))
+    read_back_of log same faulted (run.Damaged disk at) tells sure of = let x = of sure in never_damaged disk at x.0 x.1 x.2
+    read_back_of log same faulted run.Memory tells sure of = tt
+    read_back_of log same faulted _ tells sure of = absurd of
 
-  module _ {L : Type 0} (disk_faults : D → ℕ) (log_faults : L → ℕ) (faults read_faults : N → ℕ) (waits : N → Bool) (logs_of : N → List L) (met : AreMet disk_faults log_faults faults read_faults disks_of logs_of)
-      (stopped : (i : ℕ) (b : N × Option NodeFault) → i < length ws → HasMet faults waits (slice_index_or ws i b).0 (slice_index_or ws i b).1 (made_by i h)) (faulted : Type 0)
+  module _ {L : Type 0} (disk_faults : D → ℕ) (log_faults : L → ℕ) (m : Ghosts N) (logs_of : N → List L) (met : AreMet disk_faults log_faults m places disks_of logs_of)
+      (stopped : (i : ℕ) (b : N × Option NodeFault) → i < length ws → HasMet m.faults m.waits (slice_index_or ws i b).0 (slice_index_or ws i b).1 (made_by i h)) (faulted : Type 0)
       (rises : (l : Lent D) → Mem l (topology ∷ all_from disks_at 0 ws) → 1 ≤ disk_faults l.disk → faulted) where
     inside_all : (n : Node) → IsNode g n → node_number n < length ws
     inside_all n is = let under = numbers.below n is in omega (arith, under, count)
@@ -226,7 +233,7 @@ module _ {N D : Type 0} (image : D → List ℕ → Type 0) (places : N → AnyS
     one_of : (n : Node) → IsNode g n → N × Option NodeFault
     one_of n is = some_of ws (omega (arith, inside_all n is))
 
-    met_at : (n : Node) (is : IsNode g n) → HasMet faults waits (slice_index_or ws (node_number n) (one_of n is)).0 (slice_index_or ws (node_number n) (one_of n is)).1 (made_by (node_number n) h)
+    met_at : (n : Node) (is : IsNode g n) → HasMet m.faults m.waits (slice_index_or ws (node_number n) (one_of n is)).0 (slice_index_or ws (node_number n) (one_of n is)).1 (made_by (node_number n) h)
     met_at n is = stopped (node_number n) (one_of n is) (inside_all n is)
 
     has_stopped : (n : Node) → IsNode g n → list_any is_stop (made_by (node_number n) h) ≡ true → faulted
@@ -237,33 +244,42 @@ module _ {N D : Type 0} (image : D → List ℕ → Type 0) (places : N → AnyS
 
     module _ (log : RunLog) (same : log.air.history ≡ h) where
       -- the last entries of its node say so of a limit
-      spent_so : (n : Node) (epoch : ℕ) → IsNode g n → ComesToLast d h n epoch → IsSpent g log.air.history d faulted (epochs_of config (node_number n)) epoch
+      spent_so : (n : Node) (epoch : ℕ) → IsNode g n → ComesToLast d h n epoch → IsSpent g log.air.history d faulted (disk_of config (node_number n) First) epoch
       spent_so n epoch is came =
-          subst (λ l. IsSpent g l d faulted (epochs_of config (node_number n)) epoch) (sym same)
+          subst (λ l. IsSpent g l d faulted (disk_of config (node_number n) First) epoch) (sym same)
           (record {
             node = n;
             is = is;
-            named = ap (λ (k : Config). epochs_of k (node_number n)) (sym (same_numbers g config asked));
+            named = ap (λ (k : Config). disk_of k (node_number n) First) (sym (same_numbers g config asked));
             came = came;
             few = (met_at n is).most;
             met = λ some. has_stopped n is (some_counted (made_by (node_number n) h) some);
           })
 
+      -- a node whose work ended so is in a turn
+      in_turn : (n : Node) → IsNode g n → (b : N × Option NodeFault) (f : NodeFault) → (slice_index_or ws (node_number n) b).1 ≡ Some f → f ≢ node.Stopped → f ≢ node.Memory → is_in_turn (made_by (node_number n) log.air.history) ≡ true
+      in_turn n is b f told other short = subst (λ l. is_in_turn (made_by (node_number n) l) ≡ true) (sym same) ((stopped (node_number n) b (inside_all n is)).within f told other short)
+
       -- what is told of a node
-      node_told : (n : Node) → IsNode g n → (b : N × Option NodeFault) (f : NodeFault) → (slice_index_or ws (node_number n) b).1 ≡ Some f → IsOfRun g d faulted (Some log) (of_node config (node_number n) f)
-      node_told n is b node.Stopped told =
+      node_told : AreCaused m.disk_faults m.log_faults ws → (n : Node) → IsNode g n → (b : N × Option NodeFault) (f : NodeFault) → (slice_index_or ws (node_number n) b).1 ≡ Some f → IsOfRun g d faulted (Some log) (of_node config (node_number n) f)
+      node_told caused n is b node.Stopped told =
           (n, is, refl, subst (λ l. stop_count (made_by (node_number n) l) ≡ 8) (sym same) ((stopped (node_number n) b (inside_all n is)).ended told))
-      node_told n is b (node.Disk disk) told = tt
-      node_told n is b (node.Damaged disk at) told = left.whole n is b disk at told
-      node_told n is b node.Read told = tt
-      node_told n is b (node.Spent epoch) told = spent_so n epoch is (left.spent n is b epoch told)
-      node_told n is b node.Memory told = tt
+      node_told caused n is b (node.Disk disk) told =
+          inl (n, is, subst (λ (k : Config). Mem (disk_of k (node_number n) disk) (names_of (numbers_of g) n)) (same_numbers g config asked) (disk_among g n is disk), in_turn n is b (node.Disk disk) told (λ e. cc e) (λ e. cc e))
+      node_told caused n is b (node.Damaged disk at) told = left.whole n is b disk at told
+      node_told caused n is b node.Read told =
+          let j = node_number n in
+          let w = slice_index_or ws j b in
+          let some = (caused j b (inside_all n is)).read told in
+          (n, is, log_is g n is (met.reads n (left.at n) w.0 (left.stand n is b) some), in_turn n is b node.Read told (λ e. cc e) (λ e. cc e))
+      node_told caused n is b (node.Spent epoch) told = spent_so n epoch is (left.spent n is b epoch told)
+      node_told caused n is b node.Memory told = tt
 
       -- and so what is told of the first that has a fault
-      pub first_told : (f : RunFault) → first_fault config 0 ws ≡ Some f → IsOfRun g d faulted (Some log) f
-      first_told f is =
+      pub first_told : AreCaused m.disk_faults m.log_faults ws → (f : RunFault) → first_fault config 0 ws ≡ Some f → IsOfRun g d faulted (Some log) f
+      first_told caused f is =
           let t = told_of_node config g numbers ws count f is in
-          subst (IsOfRun g d faulted (Some log)) (sym t.told) (node_told t.node t.is t.default t.fault t.has)
+          subst (IsOfRun g d faulted (Some log)) (sym t.told) (node_told caused t.node t.is t.default t.fault t.has)
 
 -- ---- how many disks there are
 
@@ -320,38 +336,38 @@ module _ {N D : Type 0} (image : D → List ℕ → Type 0) (places : N → AnyS
 
 -- ---- the fault that is told
 
-module _ {N D L : Type 0} (disk_faults : D → ℕ) (log_faults : L → ℕ) (faults read_faults : N → ℕ) (disks_of : Config → ℕ → N → List (Lent D)) (logs_of : N → List L) (met : AreMet disk_faults log_faults faults read_faults disks_of logs_of)
+module _ {N D L : Type 0} (disk_faults : D → ℕ) (log_faults : L → ℕ) (m : Ghosts N) (places : N → AnyState → Type 0) (disks_of : Config → ℕ → N → List (Lent D)) (logs_of : N → List L) (met : AreMet disk_faults log_faults m places disks_of logs_of)
     (config : Config) (logs_rose disks_rose : Type 0) where
-  node_fault : (i : ℕ) (v : N) (f : NodeFault) → IsCaused faults read_faults v (Some f) → ((l : Lent D) → Mem l (disks_of config i v) → 1 ≤ disk_faults l.disk → disks_rose) → ((l : L) → Mem l (logs_of v) → 1 ≤ log_faults l → logs_rose)
+  node_fault : (i : ℕ) (v : N) (f : NodeFault) (mine : List BusEntry) → HasMet m.faults m.waits v (Some f) mine → IsCaused m.disk_faults m.log_faults v (Some f) → ((l : Lent D) → Mem l (disks_of config i v) → 1 ≤ disk_faults l.disk → disks_rose) → ((l : L) → Mem l (logs_of v) → 1 ≤ log_faults l → logs_rose)
       → IsCounted logs_rose disks_rose (of_node config i f)
-  node_fault i v node.Stopped caused rise reads = let l = met.disks config i v (caused.stopped refl) in rise l.0 l.1 l.2
-  node_fault i v (node.Disk disk) caused rise reads = let l = met.disks config i v (caused.disk disk refl) in rise l.0 l.1 l.2
-  node_fault i v (node.Damaged disk at) caused rise reads = tt
-  node_fault i v node.Read caused rise reads = let l = met.logs v (caused.read refl) in reads l.0 l.1 l.2
-  node_fault i v (node.Spent epoch) caused rise reads = tt
-  node_fault i v node.Memory caused rise reads = tt
+  node_fault i v node.Stopped mine ended caused rise reads =
+      let eight = ended.ended refl in
+      let l = met.disks config i v (ended.stops (some_counted mine (omega (arith, eight)))) in
+      rise l.0 l.1 l.2
+  node_fault i v (node.Disk disk) mine ended caused rise reads = let l = met.each config i v disk (caused.disk disk refl) in rise l.0 l.1 l.2
+  node_fault i v (node.Damaged disk at) mine ended caused rise reads = tt
+  node_fault i v node.Read mine ended caused rise reads = let l = met.logs v (caused.read refl) in reads l.0 l.1 l.2
+  node_fault i v (node.Spent epoch) mine ended caused rise reads = tt
+  node_fault i v node.Memory mine ended caused rise reads = tt
 
   -- it has its cause
-  pub fault_told : (ws : List (N × Option NodeFault)) → AreCaused faults read_faults ws
+  pub fault_told : (h : List BusEntry) (ws : List (N × Option NodeFault)) → ((i : ℕ) (b : N × Option NodeFault) → i < length ws → HasMet m.faults m.waits (slice_index_or ws i b).0 (slice_index_or ws i b).1 (made_by i h)) → AreCaused m.disk_faults m.log_faults ws
       → ((l : Lent D) → Mem l (all_from (λ k (w : N × Option NodeFault). disks_of config k w.0) 0 ws) → 1 ≤ disk_faults l.disk → disks_rose)
       → ((l : L) → Mem l (all_from (λ k (w : N × Option NodeFault). logs_of w.0) 0 ws) → 1 ≤ log_faults l → logs_rose)
       → (f : RunFault) → first_fault config 0 ws ≡ Some f → IsCounted logs_rose disks_rose f
-  fault_told ws caused rise reads f is =
+  fault_told h ws ended caused rise reads f is =
       let t = told_at config 0 ws f is in
       let b = some_of ws (omega (arith, t.within)) in
       let x = t.told b in
       let w = slice_index_or ws t.place b in
       subst (IsCounted logs_rose disks_rose) (sym x.2)
-      (node_fault t.number w.0 x.0 (subst (λ o. IsCaused faults read_faults w.0 o) x.1 (caused t.place b t.within)) (λ l m. rise l (at_place (λ k (v : N × Option NodeFault). disks_of config k v.0) 0 t.place t.number ws b l t.within t.counted m))
+      (node_fault t.number w.0 x.0 (made_by t.place h) (subst (λ o. HasMet m.faults m.waits w.0 o (made_by t.place h)) x.1 (ended t.place b t.within)) (subst (λ o. IsCaused m.disk_faults m.log_faults w.0 o) x.1 (caused t.place b t.within)) (λ l m. rise l (at_place (λ k (v : N × Option NodeFault). disks_of config k v.0) 0 t.place t.number ws b l t.within t.counted m))
       (λ l m. reads l (at_place (λ k (v : N × Option NodeFault). logs_of v.0) 0 t.place t.number ws b l t.within t.counted m)))
 
 -- ---- a fault of the disks
 
 pub disks_counted : {D : Type 0} (tells : Bool) (image : D → List ℕ → Type 0) (lent : List (Lent D)) (logs_rose disks_rose : Type 0) (f : RunFault) → IsOfDisks tells image lent disks_rose f → IsCounted logs_rose disks_rose f
-disks_counted tells image lent logs_rose disks_rose (run.Store (at.Disk disk)) of = of
-disks_counted tells image lent logs_rose disks_rose (run.Damaged disk at) of = tt
-disks_counted tells image lent logs_rose disks_rose run.Memory of = tt
-disks_counted tells image lent logs_rose disks_rose _ of = absurd of
+disks_counted tells image lent logs_rose disks_rose f of = grind arith
 
 -- and of no node
 pub disks_alone : {D : Type 0} (tells : Bool) (image : D → List ℕ → Type 0) (lent : List (Lent D)) (disks_rose P : Type 0) (f : RunFault) (n : ℕ) → IsOfDisks tells image lent disks_rose f → f ≡ run.Store (at.Node n) → P

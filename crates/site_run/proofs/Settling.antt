@@ -2,6 +2,7 @@
 use Rattle.std.specs.Prelude.{IsTrue, filter, if◌then◌else◌, Result, Ok, Err, IfOk, IfErr, OnOk}
 use Rattle.std.proofs.Common.{◌≡◌, ◌≢◌, inl, inr, ⊎_elim, ℕ, zero, suc, ◌≤◌, length, take, drop, List, [], ◌∷◌, ◌++◌, map, Bool, true, false, refl, sym, ap, ◌∙◌, subst, arith}
 use Rattle.site_run.proofs.Words.{append-nil, Mem, Each, DiskName, RunFault, damaged_by, Lent, Lacks, IsOfOne, MayBeLeft, LentDisk, EachWith, OneWith, AreReadFrom, IsOnlyRead, IsToldBy, AreAmongImages, as_lent, IsOfDisks, AreKeptIn, AreUp}
+use Rattle.site_run.specs.Causes.{IsReadBack}
 use Rattle.run_fault.specs.declared.fault.StorePlace.{StorePlace}
 use Rattle.run_fault.specs.declared.fault.StorePlace.TheVariants as place
 use Rattle.run_fault.specs.declared.fault.RunFault.TheVariants as fault
@@ -88,7 +89,7 @@ module _ {D : Type 0} (tells : Bool) (seen : D → List ℕ) (image : D → List
   none_of_disk : IsTrue planned → (disk : DiskName) (olds news : List (LentDisk D)) → OnlyRead olds news → AreUp is_down (map as_lent olds) → OneWith (λ old new. IsToldBy tells image faults planned is_down old new (fault.Store (place.Disk disk))) olds news → ⊥
   none_of_disk sure disk [] news only up one = one
   none_of_disk sure disk (o ∷ os) [] only up one = one
-  none_of_disk sure disk (o ∷ os) (n ∷ ns) only up one = ⊎_elim (λ here. here.2 sure up.0) (none_of_disk sure disk os ns only.1 up.1) one
+  none_of_disk sure disk (o ∷ os) (n ∷ ns) only up one = ⊎_elim (λ here. here.3 sure up.0) (none_of_disk sure disk os ns only.1 up.1) one
 
   none_told : (olds news : List (LentDisk D)) → OneWith (λ old new. ⊥) olds news → ⊥
   none_told [] news one = one
@@ -104,11 +105,12 @@ module _ {D : Type 0} (tells : Bool) (seen : D → List ℕ) (image : D → List
 
   -- a fault of reading is one of a disk
   told_store : (disk : DiskName) (olds news : List (LentDisk D)) (rose : Type 0) → ((l : Lent D) → Mem l (map as_lent news) → 1 ≤ faults l.disk → rose)
-      → OneWith (λ old new. IsToldBy tells image faults planned is_down old new (fault.Store (place.Disk disk))) olds news → rose
+      → OneWith (λ old new. IsToldBy tells image faults planned is_down old new (fault.Store (place.Disk disk))) olds news → IsReadBack (map as_lent olds) disk × rose
   told_store disk [] news rose rises one = absurd one
   told_store disk (o ∷ olds) [] rose rises one = absurd one
   told_store disk (o ∷ olds) (n ∷ news) rose rises one =
-      ⊎_elim (λ here. rises (as_lent n) (inl refl) (omega (arith, here.1))) (λ later. told_store disk olds news rose (λ l among some. rises l (inr among) some) later) one
+      ⊎_elim (λ here. let risen = here.2 in ((here.1, as_lent o, inl refl, here.0), rises (as_lent n) (inl refl) (omega (arith, risen))))
+      (λ later. let r = told_store disk olds news rose (λ l among some. rises l (inr among) some) later in ((r.0.0, r.0.1, inr r.0.2, r.0.3), r.1)) one
 
   -- or of bytes that may be left of one
   told_damaged : (disk : DiskName) (at : ℕ) (olds news : List (LentDisk D)) → OneWith (λ old new. IsToldBy tells image faults planned is_down old new (fault.Damaged disk at)) olds news → IsTrue tells

@@ -1,12 +1,14 @@
 -- From what a run leaves of each node to the run of the whole system.
-use Rattle.std.specs.Prelude.{IsTrue}
+use Rattle.std.specs.Prelude.{IsTrue, fold}
 use Rattle.std.proofs.Common.{◌≡◌, ◌≢◌, ℕ, ◌≤◌, ◌<◌, List, [], ◌∷◌, length, slice_index_or, Bool, true, false, Option, Some, None, refl, sym, ap, ◌∙◌, subst, arith}
-use Rattle.site_run.proofs.Words.{get_or_default, DiskName, Entry, Phase, Idle, Busy, Bytes, Kind, PlanView, IsAired, phase, is_dead, Node, Dispatcher, Server, Replica, Joiner, Setting, IsNode, NumbersAreNodes, node_number, node_of, node_count, NodeFault, Damaged, Spent, State, state_phase, phase_by, dispatcher_at_rest, joiner_at_rest, server_at_rest, World, Disks, world_after, opening, UpWith, StateOf, rows_of, down_over, cell_of, StandsFor, RestsAt, StatesRest, made_by, EachWalked, IsRunOf, AiredIsRun, Chosen, choose, StandsAt, LeadsOn, GrowsOn, Reached, Rests, AnyState, any_of, any_phase, any_rests, IsAtLast, IsMeant, AreDownOver, DeadAreReplicas, IsRunFrom, HaveGrown}
+use Rattle.site_run.proofs.Words.{get_or_default, Begin, End, Stop, Entry, Phase, is_begin, is_in_turn, Idle, Busy, Bytes, Kind, PlanView, IsAired, phase, is_dead, Node, Dispatcher, Server, Replica, Joiner, Setting, IsNode, NumbersAreNodes, node_number, node_of, node_count, NodeDisk, NodeFault, Damaged, Spent, Rows, State, state_phase, phase_by, dispatcher_at_rest, joiner_at_rest, server_at_rest, World, Disks, world_after, opening, UpWith, StateOf, rows_of, down_over, cell_of, StandsFor, RestsAt, StatesRest, made_by, EachWalked, IsRunOf, AiredIsRun, Chosen, choose, StandsAt, LeadsOn, GrowsOn, Reached, Rests, AnyState, any_of, any_phase, any_rests, IsAtLast, IsMeant, AreDownOver, DeadAreReplicas, IsRunFrom, HaveGrown}
 use Rattle.site_run.proofs.Epochs.{comes_to_last}
 use Rattle.site_node.specs.States as states
 use Rattle.photon_model.specs.Runs as model
 use Rattle.site_run.specs.AnyNodes.{GoesOn}
 use Rattle.site_run.proofs.Walking.{walked}
+use Rattle.site_node.specs.Paths.{phase_led}
+use Rattle.air_bus.specs.History.{phase_after}
 
 down_phase : (g : Setting) (d : Disks) (n : Node) (m : ℕ) → any_phase (any_of n (down_over g d n)) ≡ phase m []
 down_phase g d (Dispatcher s) m = refl
@@ -36,6 +38,22 @@ settings_so g w (Server s) u f = f.setting
 settings_so g w (Replica r) u f = f.setting
 settings_so g w (Joiner j) u f = f.setting
 
+-- entries the last of which begins a turn leave it open
+begun : (e : Entry) → is_begin e ≡ true → phase_after e ≡ Busy
+begun (Begin m b) is = refl
+begun (End m noted packets kept) is = absurd (cc is)
+begun (Stop m landed) is = absurd (cc is)
+
+open_by : {K L : Type 0} (rows : Rows K L) (was : Bool) (es : List Entry) (s t : State K L) → (was ≡ true → state_phase s ≡ Busy) → states.Path rows s es t → fold (λ before e. is_begin e) was es ≡ true → state_phase t ≡ Busy
+open_by rows was [] s t busy path last = ap state_phase (sym path) ∙ busy last
+open_by rows was (e ∷ es) s t busy path last = open_by rows (is_begin e) es path.0 t (λ is. phase_led rows s path.0 e path.1 ∙ begun e is) path.2 last
+
+open_at : (g : Setting) (d : Disks) (n : Node) (u : StateOf n) (mine : List Entry) → states.Path (rows_of n) (down_over g d n) mine u → is_in_turn mine ≡ true → any_phase (any_of n u) ≡ Busy
+open_at g d (Dispatcher s) u mine path last = open_by (rows_of (Dispatcher s)) false mine (down_over g d (Dispatcher s)) u (λ e. absurd (cc e)) path last
+open_at g d (Server s) u mine path last = open_by (rows_of (Server s)) false mine (down_over g d (Server s)) u (λ e. absurd (cc e)) path last
+open_at g d (Replica r) u mine path last = open_by (rows_of (Replica r)) false mine (down_over g d (Replica r)) u (λ e. absurd (cc e)) path last
+open_at g d (Joiner j) u mine path last = open_by (rows_of (Joiner j)) false mine (down_over g d (Joiner j)) u (λ e. absurd (cc e)) path last
+
 some_of : {A : Type 0} (xs : List A) → 0 < length xs → A
 some_of [] l = absurd (omega (arith, l))
 some_of (x ∷ xs) l = x
@@ -49,7 +67,7 @@ module _ {N S : Type 0} (leads : S → Entry → S → Type 0) (phase_of : S →
     pub at : stands w.0 here
     pub meant : IsMeant leads phase_of stands at_rest_as spends places here (any_of n u)
     pub phased : w.1 ≡ None → phase_of here ≡ phase (number w.0) (made_by (node_number n) h)
-    pub whole : (disk : DiskName) (place : ℕ) → w.1 ≢ Some (Damaged disk place)
+    pub whole : (disk : NodeDisk) (place : ℕ) → w.1 ≢ Some (Damaged disk place)
     pub spent : (epoch : ℕ) → w.1 ≡ Some (Spent epoch) → IsAtLast (any_of n u) epoch
 
   -- a node that was opened has no fault
@@ -179,4 +197,5 @@ module _ {N S : Type 0} (leads : S → Entry → S → Type 0) (phase_of : S →
               let e = chosen.holds n is in
               comes_to_last g d h n (chosen.at n) epoch e.path (e.spent epoch (ap (λ (x : N × Option NodeFault). x.1) (left_is n is c) ∙ told));
           closed = λ r n is. (rest_of r n is (gone n) refl).1;
+          still = λ r n is last. (rest_of r n is (gone n) refl).1 (open_at g d n (chosen.at n) (made_by (node_number n) h) (chosen.holds n is).path last);
         }

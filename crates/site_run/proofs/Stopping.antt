@@ -1,5 +1,5 @@
 -- Where no joiner's entries have a stop, the run has none.
-use Rattle.std.proofs.Common.{◌≡◌, ℕ, Bool, true, false, ◌||◌, List, [], ◌∷◌, refl, sym, ap, ◌∙◌, eq-eqb}
+use Rattle.std.proofs.Common.{◌≡◌, ℕ, Bool, true, ◌||◌, List, [], ◌∷◌, refl, sym, ap, ◌∙◌, eq-eqb, arith}
 use Rattle.std.specs.Prelude.{if◌then◌else◌}
 use Rattle.site_run.proofs.Words.{list_any, BusEntry, is_of, Dispatcher, Server, Replica, Joiner, Setting, NumbersAreNodes, NoJoinerStops, AllMean, made_by, is_stop, NoJoinerStopped, NoneStops}
 use Rattle.air_bus.specs.declared.entry.Entry.TheVariants as bus
@@ -11,15 +11,7 @@ module _ (j : ℕ) (e : BusEntry) (h : List BusEntry) where
   with_it b = if b then e ∷ made_by j h else made_by j h
 
   stops_more : list_any is_stop (made_by j h) ≡ true → list_any is_stop (made_by j (e ∷ h)) ≡ true
-  stops_more some = own (is_of j e)
-    where
-      either_way : (b : Bool) → (b || list_any is_stop (made_by j h)) ≡ true
-      either_way true = refl
-      either_way false = some
-
-      own : (b : Bool) → list_any is_stop (with_it b) ≡ true
-      own true = either_way (is_stop e)
-      own false = some
+  stops_more some = grind arith
 
   stops_here : is_of j e ≡ true → is_stop e ≡ true → list_any is_stop (made_by j (e ∷ h)) ≡ true
   stops_here own stop = ap (λ b. list_any is_stop (with_it b)) own ∙ ap (λ b. b || list_any is_stop (made_by j h)) stop

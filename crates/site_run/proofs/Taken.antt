@@ -1,7 +1,7 @@
 -- Disks that are taken out of others by their names.
-use Rattle.std.proofs.Common.{◌≡◌, ◌≢◌, inl, inr, ℕ, suc, ◌+◌, ◌*◌, ◌<◌, List, [], ◌∷◌, ◌++◌, length, map, take, drop, get_or, Some, refl, sym, ◌∙◌, ap, subst, length-append, arith}
+use Rattle.std.proofs.Common.{◌≡◌, ◌≢◌, ℕ, ◌+◌, ◌*◌, ◌<◌, List, [], ◌∷◌, ◌++◌, length, map, get_or, Some, refl, sym, ◌∙◌, ap, subst, length-append, arith}
 use Rattle.std.specs.Prelude.{remove}
-use Rattle.site_run.proofs.Words.{IsPermutation, append-nil, take-append-drop, drop_more, IsPermutation-trans, IsPermutation-refl, IsPermutation-middle, IsPermutation-cons, length_permutation, Each, Mem, DiskName, ReplicaNote, PairRec, Setting, JoinerKept, kept_as, Disks, joiner_of, Lent, Kept, OffsetIs, PendingAre, EpochIs, NotesAre, PairsAre, OpenView, Says, lent_by, offset_in, pending_in, epoch_in, notes_in, pairs_in, other_names, others_count, IsTakenFrom}
+use Rattle.site_run.proofs.Words.{IsPermutation, append-nil, take-append-drop, drop_more, IsPermutation-trans, IsPermutation-refl, IsPermutation-middle, IsPermutation-cons, length_permutation, Each, Mem, DiskName, ReplicaNote, PairRec, Setting, kept_as, Disks, joiner_of, Lent, Kept, OffsetIs, PendingAre, EpochIs, NotesAre, PairsAre, OpenView, Says, lent_by, offset_in, pending_in, epoch_in, other_names, others_count, IsTakenFrom}
 use Rattle.outside.specs.declared.store.DiskName.TheVariants as name
 use Rattle.site_node.specs.Replicas.{kept_of}
 use Rattle.site_run.proofs.Lists.{mapped_length}
@@ -9,9 +9,7 @@ use Rattle.site_run.proofs.Lists.{mapped_length}
 -- ---- one is taken out
 
 pub taken_is : {X : Type 0} (xs : List X) (i : ℕ) (x : X) → i < length xs → x ≡ get_or xs i x → IsTakenFrom xs x (remove xs i)
-taken_is {X} xs i x lt is =
-    let next : i + 1 ≡ suc i = omega arith in
-    (take i xs, drop (suc i) xs, sym (take-append-drop i xs) ∙ ap (λ (l : List X). take i xs ++ l) (drop_more xs i x lt) ∙ ap (λ k. take i xs ++ get_or xs i x ∷ drop k xs) next ∙ ap (λ (y : X). take i xs ++ y ∷ drop (suc i) xs) (sym is), refl)
+taken_is {X} xs i x lt is = grind (arith, take-append-drop, drop_more)
 
 pub last_is : {X : Type 0} (xs ys : List X) (x : X) → xs ≡ ys ++ x ∷ [] → IsTakenFrom xs x ys
 last_is xs ys x is = (ys, [], is, sym (append-nil ys))
@@ -47,10 +45,8 @@ module _ {D : Type 0} where
   names xs = map (λ (o : OpenView D). o.name) xs
 
   others_parts : (front back : List (OpenView D)) (one : OpenView D) (n : DiskName) → n ≢ one.name → Mem n (names (front ++ one ∷ back)) → Mem n (names (front ++ back))
-  others_parts [] back one n other (inl here) = absurd (other (sym here))
-  others_parts [] back one n other (inr later) = later
-  others_parts (x ∷ xs) back one n other (inl here) = inl here
-  others_parts (x ∷ xs) back one n other (inr later) = inr (others_parts xs back one n other later)
+  others_parts [] back one n other h = grind arith
+  others_parts (x ∷ xs) back one n other h = grind (arith, others_parts xs back one n other)
 
   pub still_there : (n m : DiskName) (old mid : List (OpenView D)) (one : OpenView D) → one.name ≡ m → IsTakenFrom old one mid → n ≢ m → Mem n (names old) → Mem n (names mid)
   still_there n m old mid one named (front, back, old_is, mid_is) apart there =
@@ -83,17 +79,11 @@ pub server_said : (g : Setting) (d : Disks) (s x : ℕ) (n : DiskName) (kept : K
 server_said g d s x n kept named is says = ap (λ k. record { epoch = epoch_in (Some k) }) (sym (subst (λ (m : DiskName). Says g d m kept) named says) ∙ is)
 
 pub replica_said : (g : Setting) (d : Disks) (r : ℕ) (x : List ReplicaNote) (n : DiskName) (kept : Kept) → n ≡ name.Replica r → kept ≡ NotesAre x → Says g d n kept → d.replicas r ≡ kept_of x
-replica_said g d r x n kept named is says =
-    let own = subst (λ (m : DiskName). Says g d m kept) named says in
-    own.2 ∙ ap (λ k. kept_of (notes_in (Some k))) (sym own.1 ∙ is)
+replica_said g d r x n kept named is says = grind arith
 
 pub joiner_said : (g : Setting) (d : Disks) (s j x : ℕ) (xs : List PairRec) (n m : DiskName) (one other : Kept) → n ≡ name.Epoch s j → m ≡ name.Output s j → one ≡ EpochIs x → other ≡ PairsAre xs → Says g d n one → Says g d m other
     → d.joiners (joiner_of g s j) ≡ record { epoch = x; pairs = xs }
-joiner_said g d s j x xs n m one other named too is are says say =
-    let k : JoinerKept = d.joiners (joiner_of g s j) in
-    let epoch : k.epoch ≡ x = ap (λ y. epoch_in (Some y)) (sym (subst (λ (l : DiskName). Says g d l one) named says) ∙ is) in
-    let pairs : k.pairs ≡ xs = ap (λ y. pairs_in (Some y)) (sym (subst (λ (l : DiskName). Says g d l other) too say) ∙ are) in
-    ap (λ e. record { epoch = e; pairs = k.pairs }) epoch ∙ ap (λ ps. record { epoch = x; pairs = ps }) pairs
+joiner_said g d s j x xs n m one other named too is are says say = grind arith
 
 pub opened_count : {D : Type 0} (joiners replicas : ℕ) (x : List (OpenView D)) → map (λ (o : OpenView D). o.name) x ≡ other_names joiners replicas → length x ≡ 6 + replicas + 4 * joiners
 opened_count joiners replicas x named = mapped_length _ x (other_names joiners replicas) named ∙ others_count joiners replicas

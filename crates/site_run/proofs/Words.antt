@@ -74,11 +74,12 @@ pub use Rattle.site_laws.specs.Stores.{AreKept, AreLeft, HoldsRecords, Images, I
 pub use Rattle.site_node.specs.Bytes.{IsNoted}
 pub use Rattle.site_node.specs.Replicas.{IsVoted, KeepsNotes, ReplicaState, kept_of as notes_kept}
 pub use Rattle.site_node.specs.States.{Ends, IsDone, Leads, MayHold, Rows, State, closes, opens, phase_by, row, row_of, state_phase, written}
+pub use Rattle.site_node.specs.declared.kind.NodeDisk.{NodeDisk}
 pub use Rattle.site_node.specs.declared.kind.NodeFault.{NodeFault}
 pub use Rattle.site_node.specs.declared.kind.NodeFault.TheVariants.{Damaged, Spent}
 pub use Rattle.site_run.specs.AnyNodes.{AnyLeads, AnyState, IsAtLast, IsMeant, any_of, any_phase, any_rests, down_with, with_site}
 pub use Rattle.site_run.specs.Asked.{AreLogsOf, IsSettingOf, IsSettingOver}
-pub use Rattle.site_run.specs.Causes.{IsOfDisks, epochs_of, of_node}
+pub use Rattle.site_run.specs.Causes.{IsOfDisks, disk_of, of_node}
 pub use Rattle.site_run.specs.Heard.{kinds_of}
 pub use Rattle.site_run.specs.Held.{HasGoneOn, HasSpelledNotes, HaveGoneOn, HoldsAs}
 pub use Rattle.site_run.specs.Joined.{IsAcceptedBound, Joins, JoinsAfresh, RanAfresh, WasHeld, decided_by}
@@ -90,7 +91,7 @@ pub use Rattle.site_run.specs.Naming.{IsTakenFrom, all_from, as_lent, count_of, 
 pub use Rattle.site_run.specs.Out.{AreOut}
 pub use Rattle.site_run.specs.Over.{RunsOver}
 pub use Rattle.site_run.specs.Placed.{AllAt, IsDownAt, IsUpAt}
-pub use Rattle.site_run.specs.Refused.{HasEnded, HasPassed, IsCauseOf, IsLate, IsNearLast, IsOfRun, IsSpent, KeptAreJournals, TellsPlaces, asked_of}
+pub use Rattle.site_run.specs.Refused.{HasEnded, HasPassed, IsCauseOf, IsLate, IsNearLast, IsOfRun, IsSpent, KeptAreJournals, NamesFailed, TellsPlaces, asked_of}
 pub use Rattle.site_run.specs.Resting.{AllKeep, IsClosed, KeepsAs}
 pub use Rattle.site_run.specs.Running.{AreDownOver, ComesToLast, DeadAreReplicas, HasCome, HaveGrown, IsRunFrom, KeptEpoch}
 pub use Rattle.site_run.specs.Settled.{AreKeptIn, AreUp, first_fault, lent_outputs, lent_replicas, or_else, told_of}
@@ -112,12 +113,12 @@ pub use Rattle.site_store.specs.Kinds.{damaged_by}
 pub use Rattle.site_store.specs.Leaving.{IsAsked, IsOut}
 pub use Rattle.site_store.specs.Lent.{IsOfOne, Lacks, Lent, MayBeLeft}
 pub use Rattle.site_store.specs.Misfits.{limit_at, limit_in}
-pub use Rattle.site_store.specs.ReadBack.{AreAmongImages, AreReadFrom, EachWith, IsOnlyRead, IsToldBy, OneWith, is_output, is_replica}
+pub use Rattle.site_store.specs.ReadBack.{AreAmongImages, AreReadFrom, EachWith, IsOnlyRead, IsToldBy, OneWith, is_output, is_read, is_replica}
 pub use Rattle.site_store.specs.Records.{AreRecordsOf, EpochIs, IsOfKind, Kept, KeptDisk, KeptValues, NotesAre, OffsetIs, OpenView, PairsAre, PendingAre, Says, kept_all, kept_by, lent_all, lent_by, topology_lent, values_of}
 pub use Rattle.site_store.specs.Refusals.{IsJournalOf, other_names}
 pub use Rattle.site_store.specs.declared.lent.disk.LentDisk.{LentDisk}
 pub use Rattle.site_workers.specs.Rounds.{AreCaused, HasFault, Rests}
-pub use Rattle.site_workers.specs.Works.{GrowsOn, HasMet, IsCaused, LeadsOn, Path, Reached, StandsAt, is_stop, stop_count}
+pub use Rattle.site_workers.specs.Works.{GrowsOn, HasMet, IsCaused, LeadsOn, Path, Reached, StandsAt, is_begin, is_in_turn, is_stop, stop_count}
 pub use Rattle.site_workers.specs.declared.one_of.OneOf.{OneOf}
 pub use Rattle.std.proofs.Math.Seq.{get_or-append_seam}
 pub use Rattle.std.proofs.lemmas.Bool.{cases_lt, eq-eqb, le-ltb, leb-true, lt-ltb, ltb-false, ltb-true, or_parts}

@@ -1,5 +1,6 @@
 -- Why a run gives up.
-use Rattle.std.specs.Prelude.{ℕ, ◌+◌, ◌-◌, nat_lt, if◌then◌else◌, List, Bool, IsTrue}
+use Rattle.std.specs.Prelude.{◌≡◌, ℕ, ◌+◌, ◌-◌, nat_lt, if◌then◌else◌, List, Bool, true, IsTrue}
+use Rattle.list_words.specs.Lists.{Mem}
 use Rattle.outside.specs.declared.store.DiskName.{DiskName}
 use Rattle.outside.specs.declared.store.DiskName.TheVariants as name
 use Rattle.run_fault.specs.declared.fault.LogName.{LogName}
@@ -10,6 +11,10 @@ use Rattle.run_fault.specs.declared.fault.RunFault.TheVariants as fault
 use Rattle.run_fault.specs.Causes.{IsOfDisk}
 use Rattle.site_store.specs.Kinds.{damaged_by}
 use Rattle.site_store.specs.Lent.{Lent, IsOfOne}
+use Rattle.site_store.specs.ReadBack.{is_read}
+use Rattle.site_node.specs.Faults.{of_two}
+use Rattle.site_node.specs.declared.kind.NodeDisk.{NodeDisk}
+use Rattle.site_node.specs.declared.kind.NodeDisk.TheVariants.{First}
 use Rattle.site_node.specs.declared.kind.NodeFault.{NodeFault}
 use Rattle.site_node.specs.declared.kind.NodeFault.TheVariants as node
 use Rattle.turn_defs.specs.declared.config.Config.{Config}
@@ -17,25 +22,35 @@ use Rattle.site_run.specs.Naming.{site_of, joiner_of}
 
 -- ---- what is told of a fault below
 
--- the log that the node of a number reads, and the disk of its epochs
+-- the log that the node of a number reads, and the name of one of its disks
 abbrev pub log_of : ℕ → LogName
 log_of number = if nat_lt number 2 then Clicks else Queries
 
-abbrev pub epochs_of : Config → ℕ → DiskName
-epochs_of config number = if nat_lt number (4 + config.replicas) then name.Server (number - 2) else name.Epoch (site_of config number) (joiner_of config number)
+abbrev pub joiner_disk : Config → ℕ → NodeDisk → DiskName
+joiner_disk config number disk = of_two (name.Epoch (site_of config number) (joiner_of config number)) (name.Output (site_of config number) (joiner_of config number)) disk
+
+abbrev pub disk_of : Config → ℕ → NodeDisk → DiskName
+disk_of config number disk =
+    if nat_lt number 2 then of_two (name.Offset number) (name.Retry number) disk
+    else if nat_lt number 4 then name.Server (number - 2)
+    else if nat_lt number (4 + config.replicas) then name.Replica (number - 4)
+    else joiner_disk config number disk
 
 -- of the node of a number
 abbrev pub of_node : Config → ℕ → NodeFault → RunFault
 of_node config number node.Stopped = fault.Store (place.Node number)
-of_node config number (node.Disk disk) = fault.Store (place.Disk disk)
-of_node config number (node.Damaged disk at) = fault.Damaged disk at
+of_node config number (node.Disk disk) = fault.Store (place.Disk (disk_of config number disk))
+of_node config number (node.Damaged disk at) = fault.Damaged (disk_of config number disk) at
 of_node config number node.Read = fault.Read (log_of number)
-of_node config number (node.Spent epoch) = fault.Limit (epochs_of config number) epoch
+of_node config number (node.Spent epoch) = fault.Limit (disk_of config number First) epoch
 of_node config number node.Memory = fault.Memory
 
 -- ---- what is said of a fault
 
--- A fault of disks that were read or written: it raised the store's count, or what a stop may leave of one of these disks is no
--- journal of its kind.
+-- one of these disks, which is read back
+abbrev pub IsReadBack : {D : Type 0} → List (Lent D) → DiskName → Type 0
+IsReadBack {D} lent disk = (is_read disk ≡ true) × (l : Lent D) × Mem l lent × (l.name ≡ disk)
+
+-- A fault of disks that are read back: one failed, and the store's count rose, or what a stop may leave of it is no journal of its kind.
 abbrev pub IsOfDisks : {D : Type 0} → Bool → (D → List ℕ → Type 0) → List (Lent D) → Type 0 → RunFault → Type 0
-IsOfDisks tells image lent rose f = IsOfDisk (λ disk. rose) (λ disk at. IsTrue tells → (c : List ℕ) × IsOfOne image lent disk c × damaged_by disk c at) f
+IsOfDisks tells image lent rose f = IsOfDisk (λ disk. IsReadBack lent disk × rose) (λ disk at. IsTrue tells → (c : List ℕ) × IsOfOne image lent disk c × damaged_by disk c at) f

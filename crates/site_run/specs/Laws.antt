@@ -1,5 +1,5 @@
 -- Laws on the disks of all nodes of a setting.
-use Rattle.std.specs.Prelude.{◌≡◌, ℕ, ◌≤◌, List, ◌∷◌, length, slice_index_or, Some, true}
+use Rattle.std.specs.Prelude.{◌≡◌, ◌≢◌, ℕ, ◌≤◌, List, ◌∷◌, length, slice_index_or, None, Some, true}
 use Rattle.std.specs.List.{list_any}
 use Rattle.list_words.specs.Lists.{Mem}
 use Rattle.outside.specs.declared.store.DiskName.{DiskName}
@@ -18,9 +18,11 @@ use Rattle.site_laws.specs.Laws.{IsRunOf, made_by}
 use Rattle.site_workers.specs.Works.{is_stop}
 use Rattle.site_laws.specs.Stores.{Images, IsDisk, KeepsTopology}
 use Rattle.site_workers.specs.Works.{Reached}
+use Rattle.site_node.specs.declared.kind.NodeDisk.{NodeDisk}
+use Rattle.site_node.specs.declared.kind.SiteNode.{Ghosts}
 use Rattle.site_run.specs.AnyNodes.{AnyState, any_of}
 use Rattle.site_run.specs.Held.{HoldsAs, HaveGoneOn}
-use Rattle.site_run.specs.Naming.{numbers_of}
+use Rattle.site_run.specs.Naming.{log_read, numbers_of}
 use Rattle.site_run.specs.Resting.{IsClosed, KeepsAs}
 
 -- The nodes of a setting in the order of their numbers, and the disks that each has by its number: they hold what its state says.
@@ -59,7 +61,9 @@ pub record AreHeld {N D : Type 0} (image : D → List ℕ → Type 0) (places : 
   pub rested : (config : Config) (n : Node) (t : StateOf n) (v : N) → IsClosed n t → places v (any_of n t) → KeepsAs image config n t (disks_of config (node_number n) v)
   pub gone_on : (config : Config) (number k : ℕ) (v w : N) → Reached grown k v w → HaveGoneOn image (disks_of config number v) (disks_of config number w)
 
--- A node's faults are those of its disks and of its log.
-pub record AreMet {N D L : Type 0} (disk_faults : D → ℕ) (log_faults : L → ℕ) (faults read_faults : N → ℕ) (disks_of : Config → ℕ → N → List (Lent D)) (logs_of : N → List L) : Type 0 where
-  pub disks : (config : Config) (number : ℕ) (v : N) → 1 ≤ faults v → (l : Lent D) × Mem l (disks_of config number v) × (1 ≤ disk_faults l.disk)
-  pub logs : (v : N) → 1 ≤ read_faults v → (l : L) × Mem l (logs_of v) × (1 ≤ log_faults l)
+-- A node's faults are those of its disks and of its log. One that stands at a state of a node without a log meets none of a log.
+pub record AreMet {N D L : Type 0} (disk_faults : D → ℕ) (log_faults : L → ℕ) (m : Ghosts N) (places : N → AnyState → Type 0) (disks_of : Config → ℕ → N → List (Lent D)) (logs_of : N → List L) : Type 0 where
+  pub disks : (config : Config) (number : ℕ) (v : N) → 1 ≤ m.faults v → (l : Lent D) × Mem l (disks_of config number v) × (1 ≤ disk_faults l.disk)
+  pub each : (config : Config) (number : ℕ) (v : N) (disk : NodeDisk) → 1 ≤ m.disk_faults v disk → (l : Lent D) × Mem l (disks_of config number v) × (1 ≤ disk_faults l.disk)
+  pub logs : (v : N) → 1 ≤ m.log_faults v → (l : L) × Mem l (logs_of v) × (1 ≤ log_faults l)
+  pub reads : (n : Node) (t : StateOf n) (v : N) → places v (any_of n t) → 1 ≤ m.log_faults v → log_read n ≢ None

@@ -12,6 +12,8 @@ use Rattle.photon_model.specs.Verification.{AreOf}
 use Rattle.site_laws.specs.Kinds.{StateOf}
 use Rattle.site_laws.specs.Laws.{IsRunOf}
 use Rattle.site_laws.specs.Stores.{Images, IsDisk, KeepsOf, AreLeft, AreKept, SameRecords}
+use Rattle.site_store.specs.Records.{AreRecordsOf}
+use Rattle.site_run.specs.declared.ran.RunLog.{RunLog}
 use Rattle.verify_pass.specs.declared.journals.Journals.{Journals}
 
 -- The history is a run of the whole system from these records, and whatever a stop leaves of the disks keeps what their nodes'
@@ -34,12 +36,13 @@ pub record HasRested (g : Setting) (d : Disks) (h : List BusEntry) (after : Imag
   pub read : AreOf g (disks (world_after g (opening d) entries)) journals
   pub stops : (faulted → ⊥) → NoJoinerStops entries
 
--- The run is from records that the disks kept when they were opened, each in an image of its disk; it is one from any records
+-- The run is from the records that the disks kept when they were opened, each in an image of its disk; it is one from any records
 -- that say the same of the setting's nodes.
-pub record RunLeft (g : Setting) (before after : Images) (h : List BusEntry) : Type 0 where
+pub record RunLeft (g : Setting) (before after : Images) (log : RunLog) : Type 0 where
   pub store : Store
   pub kept : AreLeft g before store
-  pub ran : (d : Disks) → SameRecords g store.disks d → HasRun g d h after
+  pub opened : AreRecordsOf g log.opened store.disks
+  pub ran : (d : Disks) → SameRecords g store.disks d → HasRun g d log.air.history after
 
 pub record RestLeft (g : Setting) (before after : Images) (h : List BusEntry) (faulted : Type 0) (journals : Journals) : Type 0 where
   pub store : Store

@@ -1,7 +1,9 @@
 -- The disks of nodes, under their names.
-use Rattle.std.specs.Prelude.{◌≡◌, ℕ, suc, ◌+◌, ◌-◌, ◌*◌, nat_lt, if◌then◌else◌, List, [], ◌∷◌, ◌++◌}
+use Rattle.std.specs.Prelude.{◌≡◌, ℕ, suc, ◌+◌, ◌-◌, ◌*◌, nat_lt, if◌then◌else◌, List, [], ◌∷◌, ◌++◌, Option, None, Some}
 use Rattle.outside.specs.declared.store.DiskName.{DiskName}
 use Rattle.outside.specs.declared.store.DiskName.TheVariants as name
+use Rattle.run_fault.specs.declared.fault.LogName.{LogName}
+use Rattle.run_fault.specs.declared.fault.LogName.TheVariants.{Queries, Clicks}
 use Rattle.turn_defs.specs.declared.node.Node.{Node}
 use Rattle.turn_defs.specs.declared.node.Node.TheVariants.{Dispatcher, Server, Replica, Joiner}
 use Rattle.turn_defs.specs.declared.config.Config.{Config}
@@ -35,6 +37,12 @@ names_of config (Dispatcher s) = name.Offset s ∷ name.Retry s ∷ []
 names_of config (Server s) = name.Server s ∷ []
 names_of config (Replica r) = name.Replica r ∷ []
 names_of config (Joiner j) = name.Epoch (site_of config j) (joiner_of config j) ∷ name.Output (site_of config j) (joiner_of config j) ∷ []
+
+-- the log that a node reads
+abbrev pub log_read : Node → Option LogName
+log_read (Dispatcher s) = Some Clicks
+log_read (Joiner j) = Some Queries
+log_read _ = None
 
 -- the disks of a node of each kind under the names of its number
 abbrev pub of_dispatcher : {D : Type 0} → ℕ → (offset retry : D) → List (Lent D)

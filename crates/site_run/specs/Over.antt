@@ -11,7 +11,7 @@ use Rattle.run_fault.specs.declared.fault.RunFault.{RunFault}
 use Rattle.site_run.specs.declared.ran.Outcome.{Outcome}
 use Rattle.site_run.specs.declared.ran.RunLog.{RunLog}
 use Rattle.site_run.specs.Left.{RestLeft, RunLeft}
-use Rattle.site_run.specs.Refused.{HasPassed, IsCauseOf}
+use Rattle.site_run.specs.Refused.{HasPassed, IsCauseOf, NamesFailed}
 
 -- what a call keeps of a store: where it was sound for the first setting it is for the second, and no disk's records are lost
 pub record Keeps (g h : Setting) (before after : Images) : Type 0 where
@@ -35,8 +35,9 @@ module _ (g : Setting) (before after : Images) (read faulted : Type 0) (ran : Op
     pub welcome : IsSoundStore g before → IfErr result (IsWelcome (LeavesSomething g before))
 
   -- Where a run began its history is one of the whole system, from what the disks kept when they were opened. Where it ends well
-  -- all nodes have come to rest, and the journals are what the disks keep.
+  -- all nodes have come to rest, and the journals are what the disks keep. Where it gives up the history tells what failed.
   pub record RunsOver (result : Result Outcome RunFault) : Type 0 where
     pub ends : EndsOver result
-    pub left : IfSome ran (λ l. RunLeft g before after l.air.history)
+    pub left : IfSome ran (RunLeft g before after)
     pub rest : IfOk result (λ outcome. IsSomeAnd ran (λ l. RestLeft g before after l.air.history faulted outcome.journals))
+    pub named : IfErr result (λ f. IfSome ran (λ l. NamesFailed g l.air.history f))

@@ -1,5 +1,5 @@
 -- Why a run over a store gives up, by what a stop might have left of its disks before it.
-use Rattle.std.specs.Prelude.{◌≡◌, ℕ, ◌+◌, ◌≤◌, List, ◌∷◌, true, Option, None, Some, IsSomeAnd, ⊤}
+use Rattle.std.specs.Prelude.{◌≡◌, ◌⊎◌, ℕ, ◌+◌, ◌≤◌, List, ◌∷◌, true, Option, None, Some, IsSomeAnd, ⊤}
 use Rattle.ballot_core.specs.declared.TheConstants.{LAST_EPOCH}
 use Rattle.list_words.specs.Lists.{Mem}
 use Rattle.outside.specs.declared.store.DiskName.{DiskName}
@@ -21,12 +21,14 @@ use Rattle.gate_journal.specs.Images.{IsKeptIn}
 use Rattle.site_store.specs.Refusals.{IsJournalOf, other_names}
 use Rattle.site_store.specs.Kept.{IsTold, all_kept}
 use Rattle.photon_model.specs.Runs.{Disks}
-use Rattle.site_workers.specs.Works.{stop_count}
-use Rattle.site_laws.specs.Stores.{Images}
+use Rattle.site_workers.specs.Works.{is_in_turn, stop_count}
+use Rattle.site_node.specs.declared.kind.NodeDisk.TheVariants.{First}
+use Rattle.site_laws.specs.Stores.{Images, IsDisk}
 use Rattle.site_store.specs.Records.{KeptDisk, KeptValues, AreKept}
 use Rattle.site_store.specs.Causes.{HasCause, HasPassed as PassesFor}
-use Rattle.site_run.specs.Causes.{epochs_of}
-use Rattle.site_run.specs.Naming.{numbers_of}
+use Rattle.site_store.specs.ReadBack.{is_read}
+use Rattle.site_run.specs.Causes.{disk_of}
+use Rattle.site_run.specs.Naming.{log_read, names_of, numbers_of}
 use Rattle.site_run.specs.Running.{ComesToLast}
 use Rattle.site_run.specs.declared.ran.RunLog.{RunLog}
 
@@ -90,22 +92,35 @@ module _ (g : Setting) (h : List BusEntry) where
   abbrev pub HasEnded : ℕ → Type 0
   HasEnded number = (n : Node) × IsNode g n × (number ≡ node_number n) × (stops_of n ≡ 8)
 
+  -- the last of the node's entries begins a turn
+  abbrev pub IsInTurn : Node → Type 0
+  IsInTurn n = is_in_turn (made_by (node_number n) h) ≡ true
+
+  -- What a fault names has failed by the history: a log that a node in a turn reads; a disk of a node in a turn, or, where none is in one, a
+  -- disk that is read back; a node that has stopped eight times.
+  abbrev pub NamesFailed : RunFault → Type 0
+  NamesFailed (fault.Read log) = (n : Node) × IsNode g n × (log_read n ≡ Some log) × IsInTurn n
+  NamesFailed (fault.Store (place.Node n)) = HasEnded n
+  NamesFailed (fault.Store (place.Disk disk)) =
+      ((n : Node) × IsNode g n × Mem disk (names_of (numbers_of g) n) × IsInTurn n) ⊎ (((n : Node) → IsNode g n → IsInTurn n → ⊥) × IsDisk g disk × (is_read disk ≡ true))
+  NamesFailed (fault.Store place.Directory) = ⊥
+  NamesFailed _ = ⊤
+
   -- A node has come to the last epoch, which is this one. The disk is that of its epochs, and it has stopped eight times at most; where it
   -- has at all a disk met a fault.
   pub record IsSpent (d : Disks) (faulted : Type 0) (disk : DiskName) (epoch : ℕ) : Type 0 where
     pub node : Node
     pub is : IsNode g node
-    pub named : disk ≡ epochs_of (numbers_of g) (node_number node)
+    pub named : disk ≡ disk_of (numbers_of g) (node_number node) First
     pub came : ComesToLast d h node epoch
     pub few : stops_of node ≤ 8
     pub met : 1 ≤ stops_of node → faulted
 
--- No disk is told as damaged, and the topology as no other. A node is told as stopped by its history, and a limit of one that came to
--- its last epoch.
+-- No disk is told as damaged, and the topology as no other. What failed is named by the history, and a limit of a node that came to its last
+-- epoch.
 abbrev pub IsOfRun : Setting → Disks → Type 0 → Option RunLog → RunFault → Type 0
-IsOfRun g d faulted ran (fault.Read log) = ⊤
-IsOfRun g d faulted ran (fault.Store (place.Node n)) = IsSomeAnd ran (λ l. HasEnded g l.air.history n)
-IsOfRun g d faulted ran (fault.Store (place.Disk disk)) = ⊤
+IsOfRun g d faulted ran (fault.Read log) = IsSomeAnd ran (λ l. NamesFailed g l.air.history (fault.Read log))
+IsOfRun g d faulted ran (fault.Store at) = IsSomeAnd ran (λ l. NamesFailed g l.air.history (fault.Store at))
 IsOfRun g d faulted ran (fault.Limit disk value) = IsSomeAnd ran (λ l. IsSpent g l.air.history d faulted disk value)
 IsOfRun g d faulted ran fault.Memory = ⊤
 IsOfRun g d faulted ran _ = ⊥

@@ -1,7 +1,6 @@
 -- What a run of both sites' nodes is from, and what it leaves.
 use Rattle.std.specs.Prelude.{◌≡◌, ◌≢◌, ℕ, ◌+◌, ◌≤◌, Bool, true, List, [], ◌∷◌, ◌++◌, slice_index_or, Option, Some, IsTrue}
 use Rattle.ballot_core.specs.declared.TheConstants.{LAST_EPOCH}
-use Rattle.outside.specs.declared.store.DiskName.{DiskName}
 use Rattle.air_bus.specs.declared.entry.Entry.{Entry as BusEntry}
 use Rattle.air_bus.specs.declared.entry.Entry.TheVariants.{Begin}
 use Rattle.air_bus.specs.declared.entry.Input.TheVariants.{Start}
@@ -13,9 +12,10 @@ use Rattle.turn_defs.specs.Setting.{Setting}
 use Rattle.turn_defs.specs.Nodes.{IsNode, node_number}
 use Rattle.turn_defs.specs.declared.node.Node.{Node}
 use Rattle.turn_defs.specs.declared.node.Node.TheVariants.{Dispatcher, Server, Replica, Joiner}
+use Rattle.site_node.specs.declared.kind.NodeDisk.{NodeDisk}
 use Rattle.site_node.specs.declared.kind.NodeFault.{NodeFault}
 use Rattle.site_node.specs.declared.kind.NodeFault.TheVariants.{Damaged, Spent}
-use Rattle.site_workers.specs.Works.{Reached, stop_count}
+use Rattle.site_workers.specs.Works.{Reached, is_in_turn, stop_count}
 use Rattle.photon_model.specs.Runs.{Entry, Disks, world_after, opening}
 use Rattle.photon_model.specs.Rest.{IsAtRest}
 use Rattle.site_laws.specs.Kinds.{StateOf, down_over}
@@ -55,7 +55,8 @@ module _ {N : Type 0} (places : N → AnyState → Type 0) where
     pub stand : (n : Node) → IsNode g n → (a : N × Option NodeFault) → places (slice_index_or nodes (node_number n) a).0 (any_of n (at n))
     pub at_rest : IsTrue rest → IsAtRest g (world_after g (opening d) entries)
     pub closed : IsTrue rest → (n : Node) → IsNode g n → any_phase (any_of n (at n)) ≢ Busy
-    pub whole : (n : Node) → IsNode g n → (a : N × Option NodeFault) (disk : DiskName) (place : ℕ) → (slice_index_or nodes (node_number n) a).1 ≢ Some (Damaged disk place)
+    pub still : IsTrue rest → (n : Node) → IsNode g n → is_in_turn (made_by (node_number n) h) ≢ true
+    pub whole : (n : Node) → IsNode g n → (a : N × Option NodeFault) (disk : NodeDisk) (place : ℕ) → (slice_index_or nodes (node_number n) a).1 ≢ Some (Damaged disk place)
     pub spent : (n : Node) → IsNode g n → (a : N × Option NodeFault) (epoch : ℕ) → (slice_index_or nodes (node_number n) a).1 ≡ Some (Spent epoch) → ComesToLast d h n epoch
 
 -- each node of the setting that the plan takes for a dead replica is a replica

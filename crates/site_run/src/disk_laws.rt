@@ -1,7 +1,7 @@
 // The disks of all nodes, under their names: what whatever a stop leaves of them keeps, how they have gone on, and whose
 // faults a node's are. And what a run leaves of replicas' notes and of joiners' stops.
 
-ghost use Rattle.std.specs.Prelude.{◌≡◌, ◌≤◌, ℕ, IsTrue};
+ghost use Rattle.std.specs.Prelude.{◌≡◌, ◌≢◌, ◌≤◌, ℕ, IsTrue, None};
 ghost use Rattle.list_words.specs.Lists.{Mem};
 ghost use Rattle.turn_defs.specs.declared.config.Config.{Config};
 ghost use Rattle.turn_defs.specs.declared.node.Node.{Node};
@@ -12,6 +12,8 @@ ghost use Rattle.site_workers.specs.Works.{Reached};
 ghost use Rattle.site_run.specs.AnyNodes.{any_of};
 ghost use Rattle.site_run.specs.Held.{HasSpelledNotes, HaveGoneOn, HoldsAs};
 ghost use Rattle.site_run.specs.Laws.{AreHeld, AreMet, NoneStops};
+ghost use Rattle.site_node.specs.declared.kind.NodeDisk.{NodeDisk as Which};
+ghost use Rattle.site_run.specs.Naming.{log_read};
 ghost use Rattle.site_run.specs.Resting.{IsClosed, KeepsAs};
 ghost use Rattle.site_run.specs.Stops.{ArePlanned};
 
@@ -41,10 +43,14 @@ pub fn gone_on<D: Disk, L: LogFile>()
         → HaveGoneOn D.image (⟦<AnyNode<D, L> as Parting<D, L>>⟧.disks_of config number v) (⟦<AnyNode<D, L> as Parting<D, L>>⟧.disks_of config number w) }
 {}
 
-/// A fault that a node's disks have met is one of those disks, and one of its log is its log's.
+/// A fault that a node's disks have met is one of those disks, and one of its log is its log's. A node without a log meets none of one.
 pub fn met<D: Disk, L: LogFile>()
     ensures disks { (config : Config) (number : ℕ) (node : _) → 1 ≤ ⟦<AnyNode<D, L> as SiteNode>⟧.faults node
         → (l : Lent _) × Mem l (⟦<AnyNode<D, L> as Parting<D, L>>⟧.disks_of config number node) × (1 ≤ D.faults l.disk) }
+    ensures each { (config : Config) (number : ℕ) (node : _) (disk : Which) → 1 ≤ ⟦<AnyNode<D, L> as SiteNode>⟧.disk_faults node disk
+        → (l : Lent _) × Mem l (⟦<AnyNode<D, L> as Parting<D, L>>⟧.disks_of config number node) × (1 ≤ D.faults l.disk) }
+    ensures reads { (n : Node) (t : StateOf n) (node : _) → ⟦<AnyNode<D, L> as SystemNode>⟧.places node (any_of n t)
+        → 1 ≤ ⟦<AnyNode<D, L> as SiteNode>⟧.log_faults node → log_read n ≢ None }
     ensures logs { (node : _) → 1 ≤ ⟦<AnyNode<D, L> as SiteNode>⟧.log_faults node
         → (l : _) × Mem l (⟦<AnyNode<D, L> as Parting<D, L>>⟧.logs_of node) × (1 ≤ L.faults l) }
 {}
@@ -87,7 +93,7 @@ pub fn all_planned<D: Disk, L: LogFile>()
 
 /// All that is known of whose faults a node's are.
 pub fn all_met<D: Disk, L: LogFile>()
-    ensures { AreMet D.faults L.faults ⟦<AnyNode<D, L> as SiteNode>⟧.faults ⟦<AnyNode<D, L> as SiteNode>⟧.log_faults ⟦<AnyNode<D, L> as Parting<D, L>>⟧.disks_of ⟦<AnyNode<D, L> as Parting<D, L>>⟧.logs_of }
+    ensures { AreMet D.faults L.faults ⟦<AnyNode<D, L> as SiteNode>⟧ ⟦<AnyNode<D, L> as SystemNode>⟧.places ⟦<AnyNode<D, L> as Parting<D, L>>⟧.disks_of ⟦<AnyNode<D, L> as Parting<D, L>>⟧.logs_of }
 {
     met::<D, L>();
 }

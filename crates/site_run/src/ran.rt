@@ -1,8 +1,9 @@
 // What a run leaves.
 ghost use Rattle.std.specs.Prelude.{◌≡◌, None};
 
-use air_bus::Air;
+use air_bus::{Air, Trail};
 use bus_seat::Seen;
+use site_store::OpenedDisk;
 use verify_pass::Journals;
 
 /// What a run that came to rest leaves: the journals that its disks keep, read back.
@@ -17,6 +18,8 @@ pub struct Outcome {
 pub struct RunLog {
     pub air: Air,
     pub seen: Vec<Seen>,
+    /// What the disks kept when they were opened, in the order of their names, but for the topology's. It has no bytes.
+    pub opened: Trail<OpenedDisk>,
 }
 
 /// What the last run left: nothing where none began.

@@ -3,6 +3,7 @@ ghost use Rattle.std.specs.Prelude.{◌≡◌, ◌≤◌, ℕ, List, None, IsTru
 ghost use Rattle.outside.specs.Faults.{Rose};
 ghost use Rattle.turn_defs.specs.Setting.{Setting, Checked};
 ghost use Rattle.site_store.specs.Plans.{Left, HasSoon};
+ghost use Rattle.site_store.specs.Records.{kept_all};
 ghost use Rattle.turn_defs.specs.Configs.{IsRunnable};
 ghost use Rattle.site_run.specs.Asked.{IsSettingOver, OfSetting};
 ghost use Rattle.site_run.specs.Making.{AreEnough, IsRoomFor};
@@ -18,11 +19,12 @@ use crate::nodes::AnyNode;
 use crate::settle::give_parts;
 use crate::sources::{open_logs, shut_logs};
 use crate::system::run_system;
-use crate::{Config, Names, Outcome, Ran, RunFault};
+use crate::{Config, Machine, Names, Outcome, Ran, RunFault};
+use air_bus::Trail;
 use lossy_link::Plan;
-use outside::{DiskName, Gate, Source, Store};
+use outside::{Disk, DiskName, Gate, Source, Store};
 use site_laws::stores::topology_first;
-use site_store::{LentDisk, open_store};
+use site_store::{LentDisk, OpenDisk, OpenedDisk, open_store};
 use std::alloc::Global;
 use std::sync::Wait;
 use std::thread::Threads;
@@ -85,32 +87,22 @@ where
         shut_logs(files, logs);
         return Err(RunFault::from(fault));
     }
-    run_over(
-        rt, alloc, config, end, files, store, plan, gate, ran, logs, room,
-    )
+    let machine = Machine { rt, alloc, gate };
+    run_over(machine, config, end, files, store, plan, ran, logs, room)
 }
 
 // Opens the store, builds the nodes over it, runs them, and gives all back.
-fn run_over<R, F, S, G>(
-    rt: &R,
-    alloc: Global,
+fn run_over<F: Source<Log: Drop>, S: Store<Disk: Drop>>(
+    machine: Machine<'_, impl Threads + Wait + Sync, impl Gate>,
     config: &Config,
     end: u64,
     files: &mut F,
     store: &mut S,
     plan: Plan,
-    gate: &G,
     ran: &mut Ran,
     logs: Logs<F::Log>,
     room: Room<S::Disk, F::Log, AnyNode<S::Disk, F::Log>>,
 ) -> Result<Outcome, RunFault>
-where
-    R: Threads + Wait + Sync,
-    F: Source,
-    S: Store,
-    G: Gate,
-    F::Log: Drop,
-    S::Disk: Drop,
     requires ranges { IsRunnable config.now }
     requires room { IsRoomFor config.now room }
     requires logs { AreEnough config.now.joiners logs }
@@ -137,7 +129,7 @@ where
     };
     let mut logs = logs;
     let mut read = take_last(&mut logs.clicks);
-    let opened = match open_store(alloc, store, asked, config.replicas, &mut read, end) {
+    let opened = match open_store(machine.alloc, store, asked, config.replicas, &mut read, end) {
         Ok(opened) => opened,
         Err(fault) => {
             logs.clicks.push_reserved(read);
@@ -146,7 +138,8 @@ where
         }
     };
     logs.clicks.push_reserved(read);
-    let built = match build(alloc, config, opened, logs, room) {
+    let kept = kept_by_all(&opened.disks);
+    let built = match build(machine.alloc, config, opened, logs, room) {
         Ok(built) => built,
         Err(parts) => {
             give_parts(files, store, parts);
@@ -164,6 +157,17 @@ where
         disk: topology.into_disk(),
     };
     run_system(
-        rt, alloc, config, files, store, plan, gate, ran, topology, &kinds, nodes, parts,
+        machine, config, files, store, plan, ran, topology, kept, &kinds, nodes, parts,
     )
+}
+
+// What open disks keep.
+fn kept_by_all<D: Disk>(disks: &[OpenDisk<D>]) -> Trail<OpenedDisk>
+    ensures { result ≡ kept_all disks.now }
+{
+    let mut kept = Trail::new();
+    for disk in disks {
+        kept.tell(&OpenedDisk::of(disk));
+    }
+    kept
 }

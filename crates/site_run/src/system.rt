@@ -25,39 +25,33 @@ use crate::built::{Parting, Parts, apart};
 use crate::disk_laws::none_stops;
 use crate::nodes::SystemNode;
 use crate::settle::{give_parts, part_all, settle};
-use crate::{Config, Outcome, Ran, RunFault, RunLog};
+use crate::{Config, Machine, Outcome, Ran, RunFault, RunLog};
+use air_bus::Trail;
 use lossy_link::{Kind, Plan};
 use outside::{Gate, Source, Store};
 use site_laws::stores::{once, read};
-use site_store::LentDisk;
+use site_store::{LentDisk, OpenedDisk};
 use site_workers::run;
-use std::alloc::Global;
 use std::sync::Wait;
 use std::thread::Threads;
 
 /// Runs nodes until all are at rest or one has a fault, takes them apart, reads the journals back, and gives all back with the
 /// topology's disk. `ran` gets the history, nothing where there was no memory to begin.
-pub(crate) fn run_system<R, F, S, G, N>(
-    rt: &R,
-    alloc: Global,
+pub(crate) fn run_system<F: Source, S: Store<Disk: Drop>, N>(
+    machine: Machine<'_, impl Threads + Wait + Sync, impl Gate>,
     config: &Config,
     files: &mut F,
     store: &mut S,
     plan: Plan,
-    gate: &G,
     ran: &mut Ran,
     topology: LentDisk<S::Disk>,
+    opened: Trail<OpenedDisk>,
     kinds: &[Kind],
     nodes: Vec<N>,
     parts: Parts<S::Disk, F::Log>,
 ) -> Result<Outcome, RunFault>
 where
-    R: Threads + Wait + Sync,
-    F: Source,
-    S: Store,
-    G: Gate,
     N: SystemNode + Parting<S::Disk, F::Log> + Send + Drop,
-    S::Disk: Drop,
     requires ranges { IsRunnable config.now }
     requires kinds { kinds.now ≡ kinds_of config.now.joiners config.now.replicas }
     requires count { length nodes.items ≡ count_of config.now }
@@ -74,14 +68,15 @@ where
     ensures left { IsTrue S.Disk.tells → IsTrue N.tells → (g : Setting) (d e : Disks) → IsOf config.now g → AreHeld S.Disk.image N.places N.grown N.disks_of → AreDownOver N.places g d nodes.items
         → SameRecords g d e → KeepsItsRecord S.Disk.image g (as_lent topology) → IfSome ran.new.log (λ l. HasRun g e l.air.history (S.image store.new)) }
     ensures rest { IsTrue S.Disk.tells → IsTrue N.tells → (g : Setting) (d e : Disks) → IsOf config.now g → AreHeld S.Disk.image N.places N.grown N.disks_of
-        → AreMet S.Disk.faults F.Log.faults N.faults N.log_faults N.disks_of N.logs_of → AreDownOver N.places g d nodes.items → SameRecords g d e → KeepsItsRecord S.Disk.image g (as_lent topology)
+        → AreMet S.Disk.faults F.Log.faults N.SiteNode N.places N.disks_of N.logs_of → AreDownOver N.places g d nodes.items → SameRecords g d e → KeepsItsRecord S.Disk.image g (as_lent topology)
         → IfOk result (λ outcome. IsSomeAnd ran.new.log (λ l. HasRested g e l.air.history (S.image store.new) (Rose (S.faults store.old) (S.faults store.new)) outcome.journals)) }
     ensures heard { IfSome ran.new.log (IsHeardOf plan config.now.joiners config.now.replicas) }
-    ensures cause { AreMet S.Disk.faults F.Log.faults N.faults N.log_faults N.disks_of N.logs_of
+    ensures opened { IfSome ran.new.log (λ l. l.opened ≡ opened) }
+    ensures cause { AreMet S.Disk.faults F.Log.faults N.SiteNode N.places N.disks_of N.logs_of
         → IfErr result (IsCounted (Rose (F.faults files.old) (F.faults files.new)) (Rose (S.faults store.old) (S.faults store.new))) }
-    // No disk is told as damaged. A node is told as stopped by its entries, and a limit of one that came to its last epoch by them.
+    // No disk is told as damaged. What failed is named by the nodes' entries, and a limit of a node that came to its last epoch by them.
     ensures whole { IsTrue S.Disk.tells → IsTrue N.tells → (g : Setting) (d : Disks) → IsOf config.now g → AreHeld S.Disk.image N.places N.grown N.disks_of
-        → AreMet S.Disk.faults F.Log.faults N.faults N.log_faults N.disks_of N.logs_of → AreDownOver N.places g d nodes.items → KeepsItsRecord S.Disk.image g (as_lent topology)
+        → AreMet S.Disk.faults F.Log.faults N.SiteNode N.places N.disks_of N.logs_of → AreDownOver N.places g d nodes.items → KeepsItsRecord S.Disk.image g (as_lent topology)
         → IfErr result (IsOfRun g d (Rose (S.faults store.old) (S.faults store.new)) ran.new.log) }
     ensures stopped { IfErr result (NamesEnded ran.new.log) }
     // No node stops more often than was planned for its disks, and where no stop is planned no disk meets a fault. Where nodes are spared it
@@ -102,6 +97,7 @@ where
     none_stops();
     once();
     read();
+    let Machine { rt, alloc, gate } = machine;
     let mut parts = parts;
     parts.disks.push_reserved(topology);
     let is_recorded = ran.is_recorded;
@@ -113,7 +109,7 @@ where
                 nodes,
                 ..
             } = left;
-            ran.log = Some(RunLog { air, seen });
+            ran.log = Some(RunLog { air, seen, opened });
             let (parts, fault) = part_all(nodes, config, parts);
             settle(alloc, files, store, parts, fault)
         }

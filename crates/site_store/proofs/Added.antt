@@ -1,11 +1,10 @@
 -- A row behind those of the kept table: what is answered, and what it makes of a sound store.
-use Rattle.std.proofs.Common.{◌≡◌, ◌≢◌, ◌⊎◌, inl, inr, ⊎_elim, ℕ, List, [], ◌∷◌, ◌++◌, length, map, Bool, true, false, ◌&&◌, ◌==◌, IsTrue, Option, Some, None, Result, Ok, Err, refl, sym, ◌∙◌, ap, subst, if◌then◌else◌}
-use Rattle.std.specs.Prelude.{IfSome, nat_le}
+use Rattle.std.proofs.Common.{◌≡◌, ◌≢◌, ◌⊎◌, inl, inr, ⊎_elim, ℕ, List, [], ◌∷◌, ◌++◌, map, Bool, true, ◌&&◌, IsTrue, Option, Some, None, Result, Ok, Err, refl, sym, ◌∙◌, ap, subst, arith}
+use Rattle.std.specs.Prelude.{IfSome}
 use Rattle.time_shards.specs.declared.ShardRow.{ShardRow}
 use Rattle.time_shards.specs.declared.AddFault.{AddFault}
 use Rattle.time_shards.specs.declared.AddFault.TheVariants.{Rows, Start}
-use Rattle.time_shards.specs.declared.TheConstants.{MAX_ROWS}
-use Rattle.time_shards.specs.Shards.{IsTable, added, last_start}
+use Rattle.time_shards.specs.Shards.{IsTable, added}
 use Rattle.registry_state.specs.declared.Batch.{Batch}
 use Rattle.verify_pass.specs.declared.starts.TooSoon.{TooSoon}
 use Rattle.verify_pass.specs.TooSoon.{all_batches, too_soon_for}
@@ -43,18 +42,7 @@ abbrev Added : Type 0
 Added = Result (List ShardRow) AddFault
 
 added_is : (rows : List ShardRow) (row : ShardRow) (table : List ShardRow) → added rows row ≡ Ok table → table ≡ rows ++ row ∷ []
-added_is rows row table = go (◌==◌ (length rows) MAX_ROWS) (nat_le row.start (last_start rows))
-  where
-    not_ok : (why : AddFault) → ◌≡◌ {A = Added} (Err why) (Ok table) → ⊥
-    not_ok why e = (cc)
-
-    same_ok : (rows : List ShardRow) → ◌≡◌ {A = Added} (Ok rows) (Ok table) → table ≡ rows
-    same_ok rows e = cc
-
-    go : (many early : Bool) → ◌≡◌ {A = Added} (if many then Err Rows else if early then Err (Start (last_start rows)) else Ok (rows ++ row ∷ [])) (Ok table) → table ≡ rows ++ row ∷ []
-    go true early e = absurd (not_ok Rows e)
-    go false true e = absurd (not_ok (Start (last_start rows)) e)
-    go false false e = same_ok (rows ++ row ∷ []) e
+added_is rows row table = grind arith
 
 by_parts : (joiners start : ℕ) (r : Added) (soon : Option TooSoon) (t : Topology) → answer_of joiners start r soon ≡ Ok t
     → (table : List ShardRow) × (r ≡ Ok table) × (journal.topology_of joiners table ≡ t) × (soon ≡ None)
@@ -83,8 +71,7 @@ answered (Some was) batches row t e =
 
 pub answers : (kept : Option Topology) (was : Topology) (batches : List Batch) (row : ShardRow) (table : List ShardRow) (soon : Option TooSoon) → kept ≡ Some was → added was.table row ≡ Ok table → too_soon_for batches row.start ≡ soon
     → answer_to kept batches row ≡ answer_of was.joiners row.start (Ok table) soon
-answers kept was batches row table soon is so at =
-    ap (λ (o : Option Topology). answer_to o batches row) is ∙ ap (λ (r : Added). answer_of was.joiners row.start r (too_soon_for batches row.start)) so ∙ ap (answer_of was.joiners row.start (Ok table)) at
+answers kept was batches row table soon is so at = grind arith
 
 -- its record may come next
 pub may_come : (kept : Option Topology) (was : Topology) (row : ShardRow) (table : List ShardRow) → kept ≡ Some was → IsTopology was → added was.table row ≡ Ok table → IsTable table
@@ -97,22 +84,16 @@ may_come kept was row table is fine so ok = (
 )
 
 pub no_limit : (k : KeptValues) (told : Option RunFault) → told ≡ first_limit k → ((f : RunFault) → told ≡ Some f → ⊥) → first_limit k ≡ None
-no_limit k None e none = sym e
-no_limit k (Some f) e none = absurd (none f refl)
+no_limit k told e none = grind arith
 
 -- what is at its limit is told
 pub limit_unadded : (k : KeptValues) (row : ShardRow) (f : RunFault) → first_limit k ≡ Some f → IsUnadded k row f
-limit_unadded k row f e =
-    let x = limit_is k.disks f e in
-    subst (IsUnadded k row) (sym x.2) (e ∙ ap Some x.2)
+limit_unadded k row f e = grind (arith, limit_is)
 
 -- why kept values aren't answered is why the row isn't added
 pub unadded_cause : (tells : Bool) (before : DiskName → List ℕ → Type 0) (replicas : ℕ) (row : ShardRow) (faulted : Type 0) (k : KeptValues) → AreKept tells before replicas 0 k → (f : RunFault) → IsUnadded k row f
     → IsRowCause tells before replicas row faulted f
-unadded_cause tells before replicas row faulted k are (fault.Limit disk value) why = inl (k, are, (tt, refl, why))
-unadded_cause tells before replicas row faulted k are (fault.Reshard u) why = (u, refl, (k, are, why))
-unadded_cause tells before replicas row faulted k are fault.Memory why = tt
-unadded_cause tells before replicas row faulted k are _ why = absurd why
+unadded_cause tells before replicas row faulted k are f why = grind arith
 
 -- ---- the opened disks
 

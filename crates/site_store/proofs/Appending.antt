@@ -1,5 +1,5 @@
 -- A record behind those of the topology's disk.
-use Rattle.std.proofs.Common.{◌≡◌, ◌⊎◌, inl, inr, ℕ, List, [], ◌∷◌, ◌++◌, Option, Result, Ok, Err, refl, sym, ◌∙◌, ap, subst}
+use Rattle.std.proofs.Common.{◌≡◌, ◌⊎◌, inl, inr, ℕ, List, [], ◌∷◌, ◌++◌, Option, Result, Ok, Err, refl, sym, ◌∙◌, ap, subst, arith}
 use Rattle.std.specs.Result.{result_unwrap_or}
 use Rattle.gate_journal.specs.Gate.{IsOldOrNew, records}
 use Rattle.gate_journal.specs.Records.{Read}
@@ -44,6 +44,4 @@ module _ (before image after : List ℕ → Type 0) (kept : Option Topology) (t 
 
 -- the same of the images that a disk had before
 pub written_through : (before left : List ℕ → Type 0) → StaysAs before left → (t : Topology) (c : List ℕ) → IsWritten left t c → IsWritten before t c
-written_through before left stays t c w =
-    let x = stays w.from w.was in
-    record { from = x.0; was = x.1; records = w.records; stood = sym x.2 ∙ w.stood; stands = w.stands; keeps = w.keeps }
+written_through before left stays t c w = grind arith

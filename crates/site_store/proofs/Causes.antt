@@ -1,7 +1,7 @@
 -- Why a store isn't opened, read or run over.
-use Rattle.std.proofs.Common.{◌≡◌, ◌≢◌, inl, inr, ⊎_elim, ℕ, ◌≤◌, List, [], ◌∷◌, ◌==◌, if◌then◌else◌, true, false, Bool, Option, Some, None, refl, sym, ◌∙◌, ap, subst, arith}
+use Rattle.std.proofs.Common.{◌≡◌, ◌≢◌, inl, inr, ⊎_elim, ℕ, ◌≤◌, List, [], ◌∷◌, Bool, Option, Some, None, arith}
 use Rattle.std.specs.Prelude.{IfSome, IfNone, MatchOption}
-use Rattle.site_store.proofs.Words.{list_any, some_same, none_some, each_more, DiskName, Rose, added, Topology, IsKeptIn, LogName, Clicks, StorePlace, Misplaced, RunFault, IsFitFor, is_full_note, limit_at, or_else, limit_in, IsUnopened, IsFirstDisk, IsJournalOf, IsUnwritten, Kept, TopologyIs, OffsetIs, PendingAre, EpochIs, NotesAre, PairsAre, KeptDisk, KeptValues, KeepsAs, IsKept, AreKept, AreTold, ArePassed, HasCause, HasFailed, HasPassed, IsCause, IsUnfit, IsUnread, first_limit, joiners_asked}
+use Rattle.site_store.proofs.Words.{none_some, each_more, DiskName, Rose, added, Topology, IsKeptIn, LogName, Clicks, StorePlace, Misplaced, RunFault, IsFitFor, limit_at, or_else, limit_in, IsUnopened, IsFirstDisk, IsJournalOf, IsUnwritten, Kept, KeptDisk, KeptValues, KeepsAs, IsKept, AreKept, AreTold, ArePassed, HasCause, HasFailed, HasPassed, IsCause, IsUnfit, IsUnread, first_limit, joiners_asked}
 use Rattle.outside.specs.declared.store.DiskName.TheVariants as name
 use Rattle.run_fault.specs.declared.fault.StorePlace.TheVariants as place
 use Rattle.run_fault.specs.declared.fault.Mismatch.TheVariants as mismatch
@@ -13,67 +13,42 @@ module _ (tells : Bool) (before : DiskName → List ℕ → Type 0) (replicas : 
   -- a disk isn't opened
   pub unopened_cause : (old new : ℕ) (f : RunFault) → IsUnopened tells before old new (IsFirstDisk tells before replicas (joiners_asked asked)) f
       → HasCause tells before replicas asked told read (HasFailed tells before replicas asked told (Rose old new)) ⊥ early f
-  unopened_cause old new (fault.Store (place.Disk disk)) is = is
-  unopened_cause old new (fault.Damaged disk at) is = is
-  unopened_cause old new fault.Memory is = tt
-  unopened_cause old new _ is = absurd is
+  unopened_cause old new f is = grind arith
 
   -- the topology's record isn't written
   pub unwritten_cause : (fresh n old mid new : ℕ) (f : RunFault) → IsUnwritten fresh n f → old ≤ mid → added mid n ≤ new
       → HasCause tells before replicas asked told read (HasFailed tells before replicas asked told (Rose old new)) ⊥ early f
-  unwritten_cause fresh n old mid new (fault.Store (place.Disk disk)) (is, rose) le counted = (inl is, omega (arith, rose, le, counted))
-  unwritten_cause fresh n old mid new fault.Memory is le counted = tt
-  unwritten_cause fresh n old mid new _ is le counted = absurd is
+  unwritten_cause fresh n old mid new f h le counted = grind arith
 
 module _ (tells : Bool) (before : DiskName → List ℕ → Type 0) (replicas : ℕ) (log_tells : Bool) (log : List ℕ) (end_ : ℕ) (read : Type 0) (asked : Option Topology) where
   -- what was opened can't be run or read
   pub judged : (faulted : Type 0) (k : KeptValues) (f : RunFault) → AreKept tells before replicas (joiners_asked asked) k → IsUnfit asked (AreTold log_tells log end_) read k f → IsCause tells before replicas faulted log_tells log end_ read asked f
-  judged faulted k (fault.Topology (mismatch.Joiners kept wanted)) is why = (k, is, why)
-  judged faulted k (fault.Topology (mismatch.Table kept wanted)) is why = (k, is, why)
-  judged faulted k (fault.Topology (mismatch.Place told)) is why = (k, is, why)
-  judged faulted k (fault.Limit disk value) is why = inl (k, is, why)
-  judged faulted k (fault.Read Clicks) is why = (k, is, why)
-  judged faulted k _ is why = absurd why
+  judged faulted k f is why = grind arith
 
 -- a log that wasn't read, or a disk that failed, raised its count
 module _ (tells : Bool) (before : DiskName → List ℕ → Type 0) (replicas : ℕ) (asked : Option Topology) (told : List KeptDisk → Option Misplaced → Type 0) (rose : Type 0) where
   pub unread_rose : (log : LogName) → IsUnread tells before replicas asked told rose log → rose
-  unread_rose Clicks is = is.2.1
-  unread_rose _ is = absurd is.2
+  unread_rose log is = grind arith
 
   pub failed_rose : (at : StorePlace) → HasFailed tells before replicas asked told rose at → rose
-  failed_rose (place.Disk disk) is = is.1
-  failed_rose _ is = absurd is
+  failed_rose at is = grind arith
 
 -- but for a fault of the topology's disk memory was wanting
 pub unwritten_memory : (P : Type 0) (f : RunFault) (old new : ℕ) → IsUnwritten old new f → f ≢ fault.Store (place.Disk name.Topology) → (f ≡ fault.Memory → P) → P
-unwritten_memory P (fault.Store (place.Disk disk)) old new (is, rose) other from = absurd (other (ap (λ (n : DiskName). fault.Store (place.Disk n)) is))
-unwritten_memory P fault.Memory old new is other from = from refl
-unwritten_memory P _ old new is other from = absurd is
+unwritten_memory P f old new h other from = grind arith
 
 -- ---- values that aren't run
 
 -- what is told where nothing was
 pub none_is : {A P : Type 0} (told : Option A) (Q : A → Type 0) → ((x : A) → told ≡ Some x → ⊥) → MatchOption told P Q → P
-none_is None Q not h = h
-none_is (Some x) Q not h = absurd (not x refl)
-
-if_some : {A : Type 0} (b : Bool) (x m : A) → (if b then Some x else None) ≡ Some m → m ≡ x
-if_some true x m e = sym (some_same x m e)
-if_some false x m e = none_some m e
+none_is told Q not h = grind arith
 
 -- a disk at its limit is told as such
 limit_at_is : (n : DiskName) (kept : Kept) (f : RunFault) → limit_at n kept ≡ Some f → (disk : DiskName) × (value : ℕ) × (f ≡ fault.Limit disk value)
-limit_at_is n (TopologyIs t) f e = none_some f e
-limit_at_is n (OffsetIs offset) f e = none_some f e
-limit_at_is n (PendingAre positions) f e = none_some f e
-limit_at_is n (EpochIs epoch) f e = (n, 4294967294, if_some (epoch == 4294967294) (fault.Limit n 4294967294) f e)
-limit_at_is n (NotesAre notes) f e = (n, 281474976710655, if_some (list_any is_full_note notes) (fault.Limit n 281474976710655) f e)
-limit_at_is n (PairsAre pairs) f e = none_some f e
+limit_at_is n kept f e = grind arith
 
 first_or_later : (P : Type 0) (one later : Option RunFault) (f : RunFault) → (one ≡ Some f → P) → (later ≡ Some f → P) → or_else one later ≡ Some f → P
-first_or_later P None later f here behind e = behind e
-first_or_later P (Some x) later f here behind e = here e
+first_or_later P one later f here behind e = grind arith
 
 -- and nothing else is
 pub limit_is : (disks : List KeptDisk) (f : RunFault) → limit_in disks ≡ Some f → (disk : DiskName) × (value : ℕ) × (f ≡ fault.Limit disk value)
@@ -84,14 +59,10 @@ module _ (tells : Bool) (log : List ℕ) (end_ : ℕ) (asked : Option Topology) 
   -- what the limits tell
   module _ (fit : IsFitFor k.topology asked) (places : AreTold tells log end_ k.disks None) where
     pub passed_for : (told : Option RunFault) → told ≡ first_limit k → IfNone told (ArePassed tells log end_ asked k)
-    passed_for None e = record { topology = fit; places = places; limits = sym e }
-    passed_for (Some f) e = tt
+    passed_for told e = grind arith
 
     pub limit_for : (rose : Type 0) (told : Option RunFault) → told ≡ first_limit k → IfSome told (IsUnfit asked (AreTold tells log end_) rose k)
-    limit_for rose None e = tt
-    limit_for rose (Some f) e =
-        let x = limit_is k.disks f (sym e) in
-        subst (λ (h : RunFault). IsUnfit asked (AreTold tells log end_) rose k h) (sym x.2) (fit, places, sym e ∙ ap Some x.2)
+    limit_for rose told e = grind (arith, limit_is)
 
 -- ---- a cause of more
 

@@ -98,6 +98,4 @@ module _ (tells : Bool) (sure : IsTrue tells) (image : DiskName → List ℕ →
 
 -- and a record that isn't written isn't damaged
 pub unwritten_welcome : (holds : Type 0) (f : RunFault) (old new : ℕ) → IsUnwritten old new f → IsWelcome holds f
-unwritten_welcome holds (fault.Store (place.Disk disk)) old new is = tt
-unwritten_welcome holds fault.Memory old new is = tt
-unwritten_welcome holds _ old new is = absurd is
+unwritten_welcome holds f old new is = grind arith

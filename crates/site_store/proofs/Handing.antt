@@ -1,5 +1,5 @@
 -- Disks that are given back, one by one.
-use Rattle.std.proofs.Common.{◌≡◌, ◌≢◌, ◌≤◌, ◌⊎◌, inl, inr, ⊎_elim, ℕ, List, [], ◌∷◌, ◌++◌, ◌∙◌, sym, ap, subst, arith}
+use Rattle.std.proofs.Common.{◌≡◌, ◌≢◌, ◌≤◌, ◌⊎◌, inl, inr, ℕ, List, [], ◌∷◌, ◌++◌, ◌∙◌, sym, ap, subst, arith}
 use Rattle.site_store.proofs.Words.{map-append, Mem, mem_split, DiskName, Within, Rose, added, Lent, Lacks, MayBeLeft, LentDisk, lent_of, all_lent}
 use Rattle.site_store.proofs.Lending.{given, each_mem}
 
@@ -19,10 +19,7 @@ none_left {D} left image disks name c none now = subst (λ (l : List (LentDisk D
 -- a name that no disk has is left as it was
 pub others_stay : {D : Type 0} (left : D → List ℕ → Type 0) (before after : DiskName → List ℕ → Type 0) (lent : List (Lent D)) (name : DiskName) → Lacks lent name
     → ((c : List ℕ) → after name c → MayBeLeft left before lent name c) → Within (before name) (after name)
-others_stay {D} left before after lent name lacks may c now = elim (may c now) [
-  | inl stays ↦ stays.1
-  | inr of ↦ absurd (each_mem (λ (l : Lent D). l.name ≢ name) of.one lent lacks of.among of.named)
-]
+others_stay {D} left before after lent name lacks may c now = grind (arith, each_mem)
 
 -- ---- their faults
 
@@ -55,5 +52,4 @@ last_counts {D} faults all out rest one old mid new cut later is so =
 -- once none is out, it has risen
 pub none_out : {D : Type 0} (faults : D → ℕ) (all out : List (LentDisk D)) (old new : ℕ) → out ≡ [] → OutOrRose faults all out old new
     → (d : Lent D) → Mem d (all_lent all) → 1 ≤ faults d.disk → Rose old new
-none_out {D} faults all out old new none so d among met =
-    ⊎_elim (λ (out_still : Mem d (all_lent out)). absurd (subst (λ (l : List (LentDisk D)). Mem d (all_lent l)) none out_still)) (λ rose. rose) (so.each d among met)
+none_out {D} faults all out old new none so d among met = grind arith

@@ -1,7 +1,7 @@
 -- Disks that are lent and given back, one by one.
 use Rattle.std.proofs.Common.{◌≡◌, ◌≢◌, inl, inr, ℕ, ◌+◌, ◌<◌, List, [], ◌∷◌, ◌++◌, length, take, get_or, refl, sym, ◌∙◌, ap, subst, arith, zero, suc}
 use Rattle.std.specs.Prelude.{map}
-use Rattle.site_store.proofs.Words.{map-append, take_more, length-append, Each, EachPair, Mem, DiskName, Within, IsOpened, StaysAs, IsKeptIn, Lent, Lacks, IsLent, MayBeLeft, OpenView, KeepsAs, IsKept, kept_by, lent_by, lent_all}
+use Rattle.site_store.proofs.Words.{map-append, take_more, length-append, Each, EachPair, Mem, DiskName, Within, StaysAs, IsKeptIn, Lent, Lacks, IsLent, MayBeLeft, OpenView, KeepsAs, IsKept, kept_by, lent_by, lent_all}
 use Rattle.site_store.proofs.SameNames.{same_or_not}
 use Rattle.site_store.proofs.Stays.{opened_same}
 
@@ -27,13 +27,11 @@ each_weaker P Q f (x ∷ xs) h = (f x h.0, each_weaker P Q f xs h.1)
 
 pub each_mem : {A : Type 0} (P : A → Type 0) (x : A) (xs : List A) → Each P xs → Mem x xs → P x
 each_mem P x [] h m = absurd m
-each_mem P x (y ∷ ys) h (inl e) = subst P e h.0
-each_mem P x (y ∷ ys) h (inr m) = each_mem P x ys h.1 m
+each_mem P x (y ∷ ys) h k = grind (arith, each_mem P x ys h.1)
 
 pub mem_front : {A : Type 0} (x : A) (xs ys : List A) → Mem x xs → Mem x (xs ++ ys)
 mem_front x [] ys m = absurd m
-mem_front x (y ∷ xs) ys (inl e) = inl e
-mem_front x (y ∷ xs) ys (inr m) = inr (mem_front x xs ys m)
+mem_front x (y ∷ xs) ys h = grind (arith, mem_front x xs ys)
 
 pub mem_last : {A : Type 0} (x : A) (xs : List A) → Mem x (xs ++ x ∷ [])
 mem_last x [] = inl refl
@@ -68,23 +66,13 @@ length_more all now one is = ap length is ∙ length-append all (one ∷ [])
 pub given_back : (before mid after : DiskName → List ℕ → Type 0) (name : DiskName) (first back : List ℕ → Type 0) → Within (before name) first → StaysAs first back
     → ((other : DiskName) → other ≢ name → Within (before other) (mid other)) → Within back (after name) → ((other : DiskName) → other ≢ name → Within (mid other) (after other))
     → (other : DiskName) → StaysAs (before other) (after other)
-given_back before mid after name first back images stays others give stay other c now = elim (same_or_not other name) [
-  | inl same ↦ subst (λ (n : DiskName). IsOpened (before n) c) (sym same) (let from = stays c (give c (subst (λ (n : DiskName). after n c) same now)) in (from.0, images from.0 from.1, from.2))
-  | inr not ↦ opened_same (before other) c (others other not c (stay other not c now))
-]
+given_back before mid after name first back images stays others give stay other c now = grind (arith, opened_same)
 
 module _ {D : Type 0} (left : D → List ℕ → Type 0) where
   -- one disk more
   one_lent : (before mid after : DiskName → List ℕ → Type 0) (lent : List (Lent D)) (one : Lent D) → IsLent left before mid lent → Lacks lent one.name
       → StaysAs (mid one.name) (left one.disk) → ((other : DiskName) → other ≢ one.name → Within (mid other) (after other)) → IsLent left before after (lent ++ one ∷ [])
-  one_lent before mid after lent one so lacks stays others = record {
-    out = each_push (λ (l : Lent D). StaysAs (before l.name) (left l.disk)) lent one so.out (λ c now. let from = stays c now in (from.0, so.others one.name lacks from.0 from.1, from.2));
-    others = λ name away c now. (
-        let front : Lacks lent name = each_front (λ (l : Lent D). l.name ≢ name) lent (one ∷ []) away in
-        let last = each_back (λ (l : Lent D). l.name ≢ name) lent (one ∷ []) away in
-        so.others name front c (others name (λ e. last.0 (sym e)) c now)
-        );
-  }
+  one_lent before mid after lent one so lacks stays others = grind (arith, each_push, each_front, each_back)
 
   -- the first disk, and others that were lent behind it
   pub first_lent : (before mid after : DiskName → List ℕ → Type 0) (one : Lent D) (lent : List (Lent D)) → StaysAs (before one.name) (left one.disk) → ((other : DiskName) → other ≢ one.name → Within (before other) (mid other))
@@ -122,18 +110,12 @@ module _ {D : Type 0} (left : D → List ℕ → Type 0) where
   -- what may be left once all were given back stands for what might have been left before they were taken
   pub stays_as : (before mid after : DiskName → List ℕ → Type 0) (lent : List (Lent D)) → IsLent left before mid lent
       → ((name : DiskName) (c : List ℕ) → after name c → MayBeLeft left mid lent name c) → (name : DiskName) → StaysAs (before name) (after name)
-  stays_as before mid after lent so give name c now = elim (give name c now) [
-    | inl stays ↦ opened_same (before name) c (so.others name stays.0 c stays.1)
-    | inr of ↦ subst (λ (n : DiskName). IsOpened (before n) c) of.named (each_mem (λ (l : Lent D). StaysAs (before l.name) (left l.disk)) of.one lent so.out of.among c of.may)
-  ]
+  stays_as before mid after lent so give name c now = grind (arith, each_mem)
 
   -- the same after a refusal: of the others each stands for the same too
   pub cut_back : (before mid inside after : DiskName → List ℕ → Type 0) (lent : List (Lent D)) → IsLent left before mid lent → ((name : DiskName) → StaysAs (mid name) (inside name))
       → ((name : DiskName) (c : List ℕ) → after name c → MayBeLeft left inside lent name c) → (name : DiskName) → StaysAs (before name) (after name)
-  cut_back before mid inside after lent so back give name c now = elim (give name c now) [
-    | inl stays ↦ let from = back name c stays.1 in (from.0, so.others name stays.0 from.0 from.1, from.2)
-    | inr of ↦ subst (λ (n : DiskName). IsOpened (before n) c) of.named (each_mem (λ (l : Lent D). StaysAs (before l.name) (left l.disk)) of.one lent so.out of.among c of.may)
-  ]
+  cut_back before mid inside after lent so back give name c now = grind (arith, each_mem)
 
   -- the disk of the next name is opened
   pub opened_more : (before mid after : DiskName → List ℕ → Type 0) (name : DiskName) (all now : List (OpenView D)) (one : OpenView D) → IsLent left before mid (lent_all all) → Lacks (lent_all all) name → one.name ≡ name
@@ -148,8 +130,7 @@ module _ {D : Type 0} (left : D → List ℕ → Type 0) where
   -- and keeps what might have been left of it at first
   pub keeps_first : (before mid : DiskName → List ℕ → Type 0) (all : List (OpenView D)) (one : OpenView D) (name : DiskName) → IsLent left before mid (lent_all all) → Lacks (lent_all all) name → one.name ≡ name
       → IsKeptIn (mid name) (KeepsAs one.kept) → IsKept before (kept_by one)
-  keeps_first before mid all one name so lacks named kept =
-      subst (λ (n : DiskName). IsKeptIn (before n) (KeepsAs one.kept)) (sym named) (kept.0, so.others name lacks kept.0 kept.1, kept.2)
+  keeps_first before mid all one name so lacks named kept = grind arith
 
 pub none_each : {A : Type 0} (P : A → Type 0) (xs : List A) → xs ≡ [] → Each P xs
 none_each P xs none = subst (Each P) (sym none) tt
@@ -168,11 +149,8 @@ lacks_next {D} names i d all apart is lt =
 
 -- none of these is the topology's, as their names say
 pub lacks_by_names : {D : Type 0} (name : DiskName) (all : List (OpenView D)) (names : List DiskName) → map (λ o. o.name) all ≡ names → Each (λ n. n ≢ name) names → Lacks (lent_all all) name
-lacks_by_names {D} name all names is apart =
-    each_map (λ (l : Lent D). l.name ≢ name) lent_by all (each_unmap (λ n. n ≢ name) (λ (o : OpenView D). o.name) all (subst (Each (λ n. n ≢ name)) (sym is) apart))
+lacks_by_names {D} name all names is apart = grind (arith, each_map, each_unmap)
 
 pub names_more : {D : Type 0} (names : List DiskName) (i : ℕ) (d : DiskName) (all now : List (OpenView D)) (one : OpenView D) → map (λ o. o.name) all ≡ take i names → i < length names → one.name ≡ get_or names i d
     → now ≡ all ++ one ∷ [] → map (λ o. o.name) now ≡ take (i + 1) names
-names_more {D} names i d all now one so lt named is =
-    ap (map (λ (o : OpenView D). o.name)) is ∙ map-append (λ (o : OpenView D). o.name) all (one ∷ []) ∙ ap (λ (l : List DiskName). l ++ one.name ∷ []) so ∙ ap (λ (n : DiskName). take i names ++ n ∷ []) named
-    ∙ sym (take_more names i d lt)
+names_more {D} names i d all now one so lt named is = grind (arith, map-append, take_more)

@@ -19,10 +19,7 @@ value_last {A} f from (suc n) k is = ap (λ (xs : List A). f from ∷ xs) (value
 
 -- one more is put behind the others
 pub value_more : {A : Type 0} (f : ℕ → A) (n : ℕ) (old mid now : List A) (x : A) → mid ≡ old ++ values_from f 0 n → now ≡ mid ++ x ∷ [] → x ≡ f n → now ≡ old ++ values_from f 0 (n + 1)
-value_more {A} f n old mid now x is more at =
-    let next : suc n ≡ n + 1 = omega arith in
-    more ∙ ap (λ (xs : List A). xs ++ x ∷ []) is ∙ ap (λ y. (old ++ values_from f 0 n) ++ y ∷ []) at ∙ append_assoc old (values_from f 0 n) (f n ∷ [])
-    ∙ ap (λ (xs : List A). old ++ xs) (sym (value_last f 0 n n (omega arith)) ∙ ap (values_from f 0) next)
+value_more {A} f n old mid now x is more at = grind (arith, append_assoc, value_last)
 
 mem_value : {A : Type 0} (f : ℕ → A) (from n k i : ℕ) → k ≡ from + i → i < n → Mem (f k) (values_from f from n)
 mem_value f from zero k i is lt = absurd (omega (arith, lt))
@@ -162,13 +159,11 @@ module _ (joiners replicas : ℕ) where
 
   above : (from end_ : ℕ) (ns : List DiskName) → Follow from ns end_ → Each (λ n. from ≤ number n) ns
   above from end_ [] is = tt
-  above from end_ (n ∷ ns) is =
-      (omega (arith, is.0), each_weaker (λ (m : DiskName). suc from ≤ number m) (λ (m : DiskName). from ≤ number m) (λ m le. omega (arith, le)) ns (above (suc from) end_ ns is.1))
+  above from end_ (n ∷ ns) is = grind (arith, each_weaker, above (suc from) end_ ns is.1)
 
   apart : (from end_ : ℕ) (ns : List DiskName) → Follow from ns end_ → EachPair (λ one other. one ≢ other) ns
   apart from end_ [] is = tt
-  apart from end_ (n ∷ ns) is =
-      (each_weaker (λ (m : DiskName). suc from ≤ number m) (λ (m : DiskName). n ≢ m) (λ m le e. omega (arith, le, is.0, ap number e)) ns (above (suc from) end_ ns is.1), apart (suc from) end_ ns is.1)
+  apart from end_ (n ∷ ns) is = grind (arith, each_weaker, above, apart (suc from) end_ ns is.1)
 
   pub others_apart : EachPair (λ one other. one ≢ other) all
   others_apart = apart 1 (first 4) all follow_all

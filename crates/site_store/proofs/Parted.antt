@@ -2,20 +2,17 @@
 use Rattle.std.proofs.Common.{◌≡◌, ◌≤◌, List, [], ◌∷◌, ◌++◌, length, refl, sym, ap, ◌∙◌, append_assoc, arith}
 use Rattle.std.specs.Prelude.{flat_map}
 use Rattle.std.proofs.lemmas.List.{append-nil}
-use Rattle.site_store.proofs.Words.{map-append, KeptDisk, OpenView, kept_by, kept_all, Lent, LentDisk, lent_of, all_lent, lent_by, lent_all, ReadAs, Notes, Pairs, Neither, notes_in, pairs_in}
+use Rattle.site_store.proofs.Words.{map-append, KeptDisk, OpenView, kept_by, kept_all, Lent, LentDisk, lent_of, all_lent, lent_by, lent_all, ReadAs, notes_in, pairs_in}
 
 -- the records of the first that is left are put behind the others
 pub records_moved : {D X : Type 0} (f : KeptDisk → List X) (old new extra total : List X) (one : OpenView D) (left rest : List (OpenView D)) → new ≡ old ++ extra → extra ≡ f (kept_by one) → left ≡ one ∷ rest
     → old ++ flat_map f (kept_all left) ≡ total → new ++ flat_map f (kept_all rest) ≡ total
-records_moved f old new extra total one left rest put are cut all =
-    ap (λ l. l ++ flat_map f (kept_all rest)) (put ∙ ap (λ l. old ++ l) are) ∙ append_assoc old (f (kept_by one)) (flat_map f (kept_all rest)) ∙ ap (λ l. old ++ flat_map f (kept_all l)) (sym cut) ∙ all
+records_moved f old new extra total one left rest put are cut all = grind (arith, append_assoc)
 
 -- and its disk
 pub disk_moved : {D : Type 0} (old new : List (LentDisk D)) (disk : LentDisk D) (total : List (Lent D)) (one : OpenView D) (left rest : List (OpenView D)) → new ≡ old ++ disk ∷ [] → lent_of disk ≡ lent_by one → left ≡ one ∷ rest
     → all_lent old ++ lent_all left ≡ total → all_lent new ++ lent_all rest ≡ total
-disk_moved old new disk total one left rest put is cut all =
-    ap (λ l. all_lent l ++ lent_all rest) put ∙ ap (λ l. l ++ lent_all rest) (map-append lent_of old (disk ∷ [])) ∙ append_assoc (all_lent old) (lent_of disk ∷ []) (lent_all rest) ∙ ap (λ l. all_lent old ++ l ∷ lent_all rest) is
-    ∙ ap (λ l. all_lent old ++ lent_all l) (sym cut) ∙ all
+disk_moved old new disk total one left rest put is cut all = grind (arith, map-append, append_assoc)
 
 -- once none is left all are moved
 none_of : {A : Type 0} (xs : List A) → length xs ≡ 0 → xs ≡ []
@@ -29,11 +26,7 @@ pub all_out : {D : Type 0} (now : List (LentDisk D)) (total : List (Lent D)) (le
 all_out now total left none all = sym (append-nil (all_lent now)) ∙ ap (λ l. all_lent now ++ lent_all l) (sym (none_of left none)) ∙ all
 
 pub few_notes : (read : ReadAs) → length (notes_in read) ≤ 1
-few_notes (Notes notes) = omega arith
-few_notes (Pairs pairs) = omega arith
-few_notes Neither = omega arith
+few_notes read = grind arith
 
 pub few_pairs : (read : ReadAs) → length (pairs_in read) ≤ 1
-few_pairs (Notes notes) = omega arith
-few_pairs (Pairs pairs) = omega arith
-few_pairs Neither = omega arith
+few_pairs read = grind arith

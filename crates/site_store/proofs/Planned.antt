@@ -1,6 +1,5 @@
 -- Disks that are taken, used and given back by their plans of stops.
-use Rattle.std.proofs.Common.{◌≡◌, ◌≢◌, ℕ, ◌+◌, Bool, true, false, List, [], ◌∷◌, ◌++◌, Option, ◌∙◌, refl, sym, subst, arith}
-use Rattle.outside.specs.Disk.{StopsAmong}
+use Rattle.std.proofs.Common.{◌≡◌, ◌≢◌, ℕ, Bool, false, List, [], ◌∷◌, ◌++◌, Option, ◌∙◌, refl, subst, arith}
 use Rattle.outside.specs.Faults.{added}
 use Rattle.outside.specs.Plans.{AtMost, MeetsPlan}
 use Rattle.outside.proofs.Plans.{fewer, same_plan}
@@ -11,7 +10,7 @@ use Rattle.outside.specs.declared.store.Store as store
 use Rattle.outside.specs.declared.store.DiskName.TheVariants as name
 use Rattle.run_fault.specs.declared.fault.StorePlace.TheVariants as place
 use Rattle.run_fault.specs.declared.fault.RunFault.TheVariants as fault
-use Rattle.site_store.proofs.Words.{Each, DiskName, Lent, Lacks, JournalFault, Damaged, Disk, Memory, StorePlace, RunFault, KeptValues, Topology, KeptDisk, Misplaced, IsUnfit, IsUnopened, IsUnwritten, told_by}
+use Rattle.site_store.proofs.Words.{Each, DiskName, Lent, Lacks, JournalFault, Memory, StorePlace, RunFault, KeptValues, Topology, KeptDisk, Misplaced, IsUnfit, IsUnopened, IsUnwritten, told_by}
 use Rattle.site_store.proofs.Lending.{each_both, each_front, each_back, each_weaker}
 
 -- a disk that met no fault adds none
@@ -25,27 +24,12 @@ same_left k old new from at same is here = same_plan k at old new same (fewer ol
 -- ---- why a planned store isn't opened
 
 module _ {S : Type 0} (stops : S → DiskName → ℕ → Bool) (made : S → DiskName → ℕ) (faults : S → ℕ) where
-  soon_of : (store : S) (disk : DiskName) → StopsAmong (stops store disk) (made store disk) (made store disk + 3) → HasSoon stops made store disk
-  soon_of store name.Topology s = λ none. none s.0 s.1 s.3
-  soon_of store _ s = s
-
-  none_soon : (store : S) (disk : DiskName) → Left stops made store disk 0 → HasSoon stops made store disk → ⊥
-  none_soon store name.Topology none soon = soon none
-  none_soon store _ none s = none s.0 s.1 s.3
-
-  same_soon : (old new : S) (disk : DiskName) → ((n : ℕ) → stops new disk n ≡ stops old disk n) × (made new disk ≡ made old disk) → HasSoon stops made new disk → HasSoon stops made old disk
-  same_soon old new name.Topology (same, at) soon = λ none. soon (same_left 0 _ _ _ _ same at none)
-  same_soon old new _ (same, at) s = (s.0, omega (arith, at, s.1), omega (arith, at, s.2), rw (same s.0) at s.3)
-
   -- where none is planned no fault was met
   pub calm_by_plan : (old new : S) → ((disk : DiskName) → Left stops made old disk 0) → (f : RunFault) → IsByPlan stops made faults old new f → faults new ≡ faults old
-  calm_by_plan old new none (fault.Store (place.Disk disk)) by = absurd (none_soon old disk (none disk) by)
-  calm_by_plan old new none (fault.Store _) by = absurd by
-  calm_by_plan old new none _ by = by
+  calm_by_plan old new none f by = grind arith
 
   disk_told : (old new : S) (at : StorePlace) → IsByPlan stops made faults old new (fault.Store at) → (disk : DiskName) × HasSoon stops made old disk
-  disk_told old new (place.Disk disk) by = (disk, by)
-  disk_told old new _ by = absurd by
+  disk_told old new at by = grind arith
 
   -- where none is planned so soon no disk is told
   pub spared : (old new : S) → ((disk : DiskName) → HasSoon stops made old disk → ⊥) → (f : RunFault) → IsByPlan stops made faults old new f → (at : StorePlace) → f ≢ fault.Store at
@@ -55,29 +39,22 @@ module _ {S : Type 0} (stops : S → DiskName → ℕ → Bool) (made : S → Di
   pub early_on : (old mid inside new : S) (tells : Bool) (before : DiskName → List ℕ → Type 0) (first last : ℕ) (P : DiskName → Type 0) (f : RunFault) → IsUnopened tells before first last P f
       → ((disk : DiskName) → P disk → ((n : ℕ) → stops mid disk n ≡ stops old disk n) × (made mid disk ≡ made old disk)) → faults mid ≡ faults old → faults new ≡ faults inside
       → IsByPlan stops made faults mid inside f → IsByPlan stops made faults old new f
-  early_on old mid inside new tells before first last P (fault.Store (place.Disk disk)) is same still calm by = same_soon old mid disk (same disk is.0) by
-  early_on old mid inside new tells before first last P (fault.Store _) is same still calm by = absurd by
-  early_on old mid inside new tells before first last P _ is same still calm by = calm ∙ by ∙ still
+  early_on old mid inside new tells before first last P f is same still calm by = grind arith
 
   -- what was opened can't be run or read, and is given back
   pub unfit_early : (old new : S) (asked : Option Topology) (told : List KeptDisk → Option Misplaced → Type 0) (rose : Type 0) (k : KeptValues) (f : RunFault) → IsUnfit asked told rose k f → faults new ≡ faults old
       → IsByPlan stops made faults old new f
-  unfit_early old new asked told rose k (fault.Store at) why still = absurd why
-  unfit_early old new asked told rose k _ why still = still
+  unfit_early old new asked told rose k f why still = grind arith
 
   -- the topology's record isn't written, whose disk had met no fault
   pub unwritten_early : (old new : S) (fresh met : ℕ) (f : RunFault) → IsUnwritten fresh met f → fresh ≡ 0 → (Left stops made old name.Topology 0 → met ≡ fresh) → (f ≡ fault.Memory → faults new ≡ faults old)
       → IsByPlan stops made faults old new f
-  unwritten_early old new fresh met (fault.Store (place.Disk disk)) (is, rose) zero none still =
-      subst (HasSoon stops made old) (sym is) (λ left. let same = none left in omega (arith, rose, zero, same))
-  unwritten_early old new fresh met fault.Memory is zero none still = still refl
-  unwritten_early old new fresh met _ is zero none still = absurd is
+  unwritten_early old new fresh met f h zero none still = grind arith
 
 module _ {D : Type 0} (stops : D → ℕ → Bool) (made faults : D → ℕ) where
   -- where no stop is planned a call meets no fault
   pub calm_call : (most : ℕ) (failed : Bool) (old new : D) → MeetsPlan stops made faults most failed old new → AtMost (stops old) (made old) 0 → faults new ≡ faults old
-  calm_call most true old new call none = let s = call.cause refl in absurd (none s.0 s.1 s.3)
-  calm_call most false old new call none = call.tally
+  calm_call most failed old new call none = grind arith
 
   -- none of them met a fault
   pub each_calm : (left : DiskName → ℕ → Type 0) (lent : List (Lent D)) → AllAsPlanned stops made faults left lent → Each (λ l. faults l.disk ≡ 0) lent
@@ -99,34 +76,15 @@ module _ {D S : Type 0} (d : disk.Ghosts D) (s : store.Ghosts S D) where
   module _ (before : S) (name : DiskName) (disk : D) (same : (n : ℕ) → d.stops disk n ≡ s.stops before name n) (at : d.made disk ≡ s.made before name) (none : d.faults disk ≡ 0) where
     pub one_taken : (after : S) → ((other : DiskName) → other ≢ name → (n : ℕ) → s.stops after other n ≡ s.stops before other n) → ((other : DiskName) → other ≢ name → s.made after other ≡ s.made before other)
         → s.faults after ≡ s.faults before → Taken before after (record { name = name; disk = disk } ∷ [])
-    one_taken after stay stand still = record {
-      out = (record { most = λ k here. same_left k (s.stops before name) (d.stops disk) (s.made before name) (d.made disk) same at here; calm = none }, tt);
-      others = λ other lacks. (stay other (λ e. lacks.0 (sym e)), stand other (λ e. lacks.0 (sym e)));
-      still = still;
-    }
+    one_taken after stay stand still = grind arith
 
     -- it isn't opened
     pub refused_early : (after : S) (f : JournalFault) (back : D) → MeetsPlan d.stops d.made d.faults 3 (is_of_disk f) disk back → (d.faults back ≡ 0 → s.faults after ≡ s.faults before) → IsByPlan s.stops s.made s.faults before after (told_by name f)
-    refused_early after (Damaged place) back call still = still (call.tally ∙ none)
-    refused_early after Disk back call still =
-        let stop = call.cause refl in
-        let few = call.few in
-        soon_of s.stops s.made s.faults before name (stop.0, omega (arith, at, stop.1), omega (arith, at, few, stop.2), rw (same stop.0) at stop.3)
-    refused_early after Memory back call still = still (call.tally ∙ none)
+    refused_early after f back call still = grind arith
 
   -- the first of them was used, and met no stop
   pub first_used : (before after : S) (most : ℕ) (x y : Lent D) (lent : List (Lent D)) → y.name ≡ x.name → MeetsPlan d.stops d.made d.faults most false x.disk y.disk → Taken before after (x ∷ lent) → Taken before after (y ∷ lent)
-  first_used before after most x y lent named call so = record {
-    out = (
-      subst (λ (n : DiskName). IsAsPlanned d.stops d.made d.faults (Left s.stops s.made before n) y.disk) (sym named) (record {
-        most = λ k here. same_plan k (d.made y.disk) (d.stops x.disk) (d.stops y.disk) call.same (fewer (d.stops x.disk) k (d.made x.disk) (d.made y.disk) call.later (so.out.0.most k here));
-        calm = call.tally ∙ so.out.0.calm;
-      }),
-      so.out.1,
-    );
-    others = λ other lacks. so.others other ((λ e. lacks.0 (named ∙ e)), lacks.1);
-    still = so.still;
-  }
+  first_used before after most x y lent named call so = grind arith
 
   -- the same disk under the same name
   pub taken_as : (before after : S) (x y : Lent D) → x.name ≡ y.name → x.disk ≡ y.disk → Taken before after (x ∷ []) → Taken before after (y ∷ [])
@@ -134,22 +92,12 @@ module _ {D S : Type 0} (d : disk.Ghosts D) (s : store.Ghosts S D) where
 
   moved : (before mid : S) (xs : List (Lent D)) → Taken before mid xs → (ys : List (Lent D)) → Each (λ y. Lacks xs y.name) ys → Each (Planned mid) ys → Each (Planned before) ys
   moved before mid xs so [] apart out = tt
-  moved before mid xs so (y ∷ ys) apart out = (
-    record {
-      most = λ k here. out.0.most k (same_left k (s.stops before y.name) (s.stops mid y.name) (s.made before y.name) (s.made mid y.name) (so.others y.name apart.0).0 (so.others y.name apart.0).1 here);
-      calm = out.0.calm;
-    },
-    moved before mid xs so ys apart.1 out.1,
-  )
+  moved before mid xs so (y ∷ ys) apart out = grind (arith, same_left, moved before mid xs so ys apart.1 out.1)
 
   -- some disks, and then some others
   pub taken_on : (before mid after : S) (xs ys : List (Lent D)) → Taken before mid xs → Each (λ y. Lacks xs y.name) ys → Taken mid after ys → Taken before after (xs ++ ys)
   taken_on before mid after xs ys first apart next = record {
     out = each_both (Planned before) xs ys first.out (moved before mid xs first ys apart next.out);
-    others = λ name lacks. (
-        let a = first.others name (each_front (λ (l : Lent D). l.name ≢ name) xs ys lacks) in
-        let b = next.others name (each_back (λ (l : Lent D). l.name ≢ name) xs ys lacks) in
-        ((λ n. b.0 n ∙ a.0 n), b.1 ∙ a.1)
-        );
+    others = λ name lacks. grind (arith, each_front, each_back);
     still = next.still ∙ first.still;
   }

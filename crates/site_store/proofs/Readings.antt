@@ -1,28 +1,17 @@
 -- What disks are read as, one more at a time.
-use Rattle.std.proofs.Common.{◌≡◌, ◌<◌, inl, ℕ, ◌+◌, List, [], ◌∷◌, ◌++◌, length, take, get_or, Bool, IsTrue, refl, sym, ◌∙◌, ap, subst, arith, if◌then◌else◌}
-use Rattle.std.specs.Prelude.{Result, Ok, Err, IsErrAnd, IfErr}
-use Rattle.site_store.proofs.Words.{filter, take_more, filter-append, each_append, ReplicaNote, PairRec, KeepsPairs, KeepsNotes, LentDisk, ReadAs, Notes, Pairs, Neither, is_replica, is_output, replicas, outputs, notes_in, pairs_in, AreReadFrom, AreAmongImages, IsReadAs, IsAnImage, IsOnlyRead}
+use Rattle.std.proofs.Common.{◌≡◌, ◌<◌, ℕ, ◌+◌, List, [], ◌∷◌, ◌++◌, length, take, get_or, Bool, IsTrue, sym, ◌∙◌, ap, subst, arith}
+use Rattle.std.specs.Prelude.{Result, IsErrAnd, IfErr}
+use Rattle.site_store.proofs.Words.{filter, take_more, filter-append, each_append, ReplicaNote, PairRec, KeepsPairs, KeepsNotes, LentDisk, ReadAs, is_replica, is_output, replicas, outputs, notes_in, pairs_in, AreReadFrom, AreAmongImages, IsReadAs, IsAnImage, IsOnlyRead}
 use Rattle.site_store.proofs.Walking.{FirstWith, first_at, each_with_append}
 
 -- a fault that is handed on
 pub handed_on : {T E : Type 0} (r : Result T E) (fault : E) (P : E → Type 0) → IsErrAnd r (λ e. e ≡ fault) → P fault → IfErr r P
-handed_on (Ok x) fault P is p = tt
-handed_on (Err e) fault P is p = subst P (sym is) p
+handed_on r fault P is p = grind arith
 
 -- a disk that nothing was done to
 pub untouched : {D : Type 0} (tells : Bool) (seen : D → List ℕ) (image : D → List ℕ → Type 0) (since : D → D → List ℕ → Type 0) (faults : D → ℕ) (planned : Bool) (is_down : D → Bool)
     → ((disk : D) (c : List ℕ) → IsTrue tells → since disk disk c → image disk c) → (lent : LentDisk D) → IsOnlyRead tells seen image since faults planned is_down lent lent
-untouched tells seen image since faults planned is_down starts lent = record {
-  named = refl;
-  reads = λ sure. refl;
-  moments = λ sure. record {
-    each = λ c at. starts lent.disk c sure at;
-    now = λ c at. at;
-    before = λ s c at. inl at;
-  };
-  count = omega arith;
-  calm = λ sure up. refl;
-}
+untouched tells seen image since faults planned is_down starts lent = grind arith
 
 -- one element more, of those that a test picks
 filter_more : {A : Type 0} (p : A → Bool) (xs : List A) (i : ℕ) (d : A) → i < length xs → filter p (take i xs) ++ filter p (get_or xs i d ∷ []) ≡ filter p (take (i + 1) xs)
@@ -31,16 +20,10 @@ filter_more p xs i d lt = sym (filter-append p (take i xs) (get_or xs i d ∷ []
 module _ {D : Type 0} (tells : Bool) (seen : D → List ℕ) where
   -- what one disk is read as, as a list of lists
   notes_of_one : (d : LentDisk D) (read : ReadAs) → IsReadAs tells seen d read → AreReadFrom tells seen KeepsNotes (replicas (d ∷ [])) (notes_in read)
-  notes_of_one d (Notes notes) is =
-      subst (λ (b : Bool). AreReadFrom tells seen KeepsNotes (if b then d ∷ [] else []) (notes ∷ [])) (sym is.0) (is.2, tt)
-  notes_of_one d (Pairs pairs) is = subst (λ (b : Bool). AreReadFrom tells seen KeepsNotes (if b then d ∷ [] else []) []) (sym is.0) tt
-  notes_of_one d Neither is = subst (λ (b : Bool). AreReadFrom tells seen KeepsNotes (if b then d ∷ [] else []) []) (sym is.0) tt
+  notes_of_one d read is = grind arith
 
   pairs_of_one : (d : LentDisk D) (read : ReadAs) → IsReadAs tells seen d read → AreReadFrom tells seen KeepsPairs (outputs (d ∷ [])) (pairs_in read)
-  pairs_of_one d (Notes notes) is = subst (λ (b : Bool). AreReadFrom tells seen KeepsPairs (if b then d ∷ [] else []) []) (sym is.1) tt
-  pairs_of_one d (Pairs pairs) is =
-      subst (λ (b : Bool). AreReadFrom tells seen KeepsPairs (if b then d ∷ [] else []) (pairs ∷ [])) (sym is.1) (is.2, tt)
-  pairs_of_one d Neither is = subst (λ (b : Bool). AreReadFrom tells seen KeepsPairs (if b then d ∷ [] else []) []) (sym is.1) tt
+  pairs_of_one d read is = grind arith
 
   -- one disk more
   read_more : {V : Type 0} (keeps : List V → List ℕ → Type 0) (p : LentDisk D → Bool) (disks : List (LentDisk D)) (i : ℕ) (d : LentDisk D) (lists extra now : List (List V)) → i < length disks
@@ -67,21 +50,15 @@ module _ {D : Type 0} (tells : Bool) (seen : D → List ℕ) where
 module _ {D : Type 0} (tells : Bool) (seen : D → List ℕ) (image : D → List ℕ → Type 0) where
   -- what one disk is read from
   notes_image : (d : LentDisk D) (read : ReadAs) → IsReadAs tells seen d read → IsAnImage tells seen image d read → AreAmongImages tells seen image (replicas (d ∷ []))
-  notes_image d (Notes notes) is left = subst (λ (b : Bool). AreAmongImages tells seen image (if b then d ∷ [] else [])) (sym is.0) (left, tt)
-  notes_image d (Pairs pairs) is left = subst (λ (b : Bool). AreAmongImages tells seen image (if b then d ∷ [] else [])) (sym is.0) tt
-  notes_image d Neither is left = subst (λ (b : Bool). AreAmongImages tells seen image (if b then d ∷ [] else [])) (sym is.0) tt
+  notes_image d read is left = grind arith
 
   pairs_image : (d : LentDisk D) (read : ReadAs) → IsReadAs tells seen d read → IsAnImage tells seen image d read → AreAmongImages tells seen image (outputs (d ∷ []))
-  pairs_image d (Notes notes) is left = subst (λ (b : Bool). AreAmongImages tells seen image (if b then d ∷ [] else [])) (sym is.1) tt
-  pairs_image d (Pairs pairs) is left = subst (λ (b : Bool). AreAmongImages tells seen image (if b then d ∷ [] else [])) (sym is.1) (left, tt)
-  pairs_image d Neither is left = subst (λ (b : Bool). AreAmongImages tells seen image (if b then d ∷ [] else [])) (sym is.1) tt
+  pairs_image d read is left = grind arith
 
   -- one disk more
   left_more : (p : LentDisk D → Bool) (disks : List (LentDisk D)) (i : ℕ) (d : LentDisk D) → i < length disks → AreAmongImages tells seen image (filter p (take i disks))
       → AreAmongImages tells seen image (filter p (get_or disks i d ∷ [])) → AreAmongImages tells seen image (filter p (take (i + 1) disks))
-  left_more p disks i d lt so one =
-      subst (AreAmongImages tells seen image) (filter_more p disks i d lt)
-      (each_append (λ (x : LentDisk D). IsTrue tells → image x.disk (seen x.disk)) (filter p (take i disks)) (filter p (get_or disks i d ∷ [])) so one)
+  left_more p disks i d lt so one = grind (arith, filter_more, each_append)
 
   -- the next disk is read
   pub notes_left_more : (R : LentDisk D → LentDisk D → Type 0) (disks now : List (LentDisk D)) (i : ℕ) (d : LentDisk D) (read : ReadAs) → FirstWith R i disks now → i < length disks

@@ -1,6 +1,6 @@
 -- The records of a setting's nodes that its disks keep.
-use Rattle.std.proofs.Common.{◌≡◌, ◌≢◌, ◌⊎◌, inl, inr, ℕ, zero, suc, ◌+◌, ◌-◌, ◌*◌, ◌<◌, nat_lt, List, [], ◌∷◌, map, Bool, true, false, cond, IsTrue, Option, Some, None, refl, sym, ◌∙◌, ap, subst, arith}
-use Rattle.site_store.proofs.Words.{lt-ltb, le-ltb, Each, EachPair, Mem, DiskName, ReplicaNote, PairRec, Setting, first_joiner, JoinerKept, ReplicaKept, IsKeptIn, kept_of, Disks, StoreTopology, topology_of, WholeSound, TopologyComesFirst, IsDisk, KeepsOf, KeepsVotes, IsSoundStore, AreLeft, joiner_of, topology_read, ReadTopologyIsKept, ReadNotesAreKept, OpenedIsWhole, joiners_kept, Kept, OffsetIs, PendingAre, EpochIs, NotesAre, PairsAre, KeptDisk, KeptValues, KeepsAs, IsOfKind, IsKept, AreKept, Says, AreRecordsOf, other_names}
+use Rattle.std.proofs.Common.{◌≡◌, ◌≢◌, ◌⊎◌, inl, inr, ℕ, zero, suc, ◌+◌, ◌-◌, ◌*◌, ◌<◌, nat_lt, List, [], ◌∷◌, map, Bool, true, cond, IsTrue, Option, Some, None, refl, sym, ◌∙◌, ap, subst, arith}
+use Rattle.site_store.proofs.Words.{Each, EachPair, Mem, DiskName, ReplicaNote, PairRec, Setting, first_joiner, JoinerKept, ReplicaKept, IsKeptIn, kept_of, Disks, StoreTopology, topology_of, WholeSound, TopologyComesFirst, IsDisk, KeepsOf, KeepsVotes, IsSoundStore, AreLeft, joiner_of, topology_read, ReadTopologyIsKept, ReadNotesAreKept, OpenedIsWhole, joiners_kept, Kept, OffsetIs, PendingAre, EpochIs, NotesAre, PairsAre, KeptDisk, KeptValues, KeepsAs, IsOfKind, IsKept, AreKept, Says, AreRecordsOf, other_names}
 use Rattle.outside.specs.declared.store.DiskName.TheVariants as name
 use Rattle.site_store.proofs.Lending.{each_mem}
 use Rattle.site_store.proofs.Names.{all_named}
@@ -57,8 +57,7 @@ kept_at disks n = kept_found disks n (find_name disks n)
 
 found_is : (disks : List KeptDisk) → EachPair (λ one other. one ≢ other) (map (λ d. d.name) disks) → (d : KeptDisk) → Mem d disks
     → (found : ((o : KeptDisk) × Mem o disks × (o.name ≡ d.name)) ⊎ ((o : KeptDisk) → Mem o disks → o.name ≡ d.name → ⊥)) → kept_found disks d.name found ≡ Some d.kept
-found_is disks apart d among (inl found) = ap (λ (o : KeptDisk). Some o.kept) (one_named disks apart found.0 d found.1 among found.2)
-found_is disks apart d among (inr none) = absurd (none d among refl)
+found_is disks apart d among found = grind (arith, one_named)
 
 abbrev pub offset_in : Option Kept → ℕ
 offset_in (Some (OffsetIs offset)) = offset
@@ -88,15 +87,8 @@ abbrev pub place_in : (many place : ℕ) → ℕ
 place_in many place = cond (nat_lt place many) place (place - many)
 
 joiner_in : (many s j place : ℕ) → s < 2 → j < many → place ≡ s * many + j → (site_in many place ≡ s) × (place_in many place ≡ j)
-joiner_in many zero j place lt below is =
-    let at : place ≡ j = omega (arith, is) in
-    let first : nat_lt place many ≡ true = lt-ltb place many (omega (arith, at, below)) in
-    (ap (λ t. cond t 0 1) first, ap (λ t. cond t place (place - many)) first ∙ at)
-joiner_in many (suc zero) j place lt below is =
-    let at : place ≡ many + j = omega (arith, is) in
-    let second : nat_lt place many ≡ false = le-ltb place many (omega (arith, at)) in
-    let so : place - many ≡ j = omega (arith, at) in
-    (ap (λ t. cond t 0 1) second, ap (λ t. cond t place (place - many)) second ∙ so)
+joiner_in many zero j place lt below is = grind arith
+joiner_in many (suc zero) j place lt below is = grind arith
 joiner_in many (suc (suc s)) j place lt below is = absurd (omega (arith, lt))
 
 abbrev pub joiner_disks : Setting → List KeptDisk → (s j : ℕ) → JoinerKept
@@ -137,9 +129,4 @@ each_from P (x ∷ xs) f = (f x (inl refl), each_from P xs (λ y m. f y (inr m))
 -- the records of disks of a setting with so many joiners
 pub are_records : (g : Setting) (disks : List KeptDisk) (names : List DiskName) → map (λ d. d.name) disks ≡ names → EachPair (λ one other. one ≢ other) names → Each (IsDisk g) names
     → Each (λ d. IsOfKind d.name d.kept) disks → AreRecordsOf g disks (records_of g disks)
-are_records g disks names named apart here kinds =
-    let distinct = subst (EachPair (λ one other. one ≢ other)) (sym named) apart in
-    let inside = subst (Each (IsDisk g)) (sym named) here in
-    each_from (λ (d : KeptDisk). Says g (records_of g disks) d.name d.kept) disks (λ d among.
-    says_at g disks d.name d.kept (each_mem (λ (o : KeptDisk). IsOfKind o.name o.kept) d disks kinds among) (each_mem (IsDisk g) d.name _ inside (named_mem disks d among))
-    (found_is disks distinct d among (find_name disks d.name)))
+are_records g disks names named apart here kinds = grind (arith, each_from, says_at, each_mem, named_mem, found_is)

@@ -1,14 +1,12 @@
 -- The first disk that isn't opened.
-use Rattle.std.proofs.Common.{◌≡◌, ◌<◌, ℕ, zero, suc, List, [], ◌∷◌, ◌++◌, length, take, get_or, refl, ap, arith, Bool, IsTrue}
+use Rattle.std.proofs.Common.{◌≡◌, ◌<◌, ℕ, zero, suc, List, [], ◌∷◌, ◌++◌, length, take, get_or, refl, arith, Bool, IsTrue}
 use Rattle.site_store.proofs.Words.{DiskName, WereJournals, IsFirst}
 
 -- the names up to a place, and behind it
 cut_at : (names : List DiskName) (i : ℕ) (d : DiskName) → i < length names → (rest : List DiskName) × (names ≡ take i names ++ get_or names i d ∷ rest)
 cut_at [] i d lt = absurd (omega (arith, lt))
 cut_at (x ∷ xs) zero d lt = (xs, refl)
-cut_at (x ∷ xs) (suc i) d lt =
-    let more = cut_at xs i d (omega (arith, lt)) in
-    (more.0, ap (λ (l : List DiskName). x ∷ l) more.1)
+cut_at (x ∷ xs) (suc i) d lt = grind (arith, cut_at xs i d)
 
 -- the disk at a place isn't opened, and those in front of it are
 pub first_at : (tells : Bool) (before : DiskName → List ℕ → Type 0) (names : List DiskName) (i : ℕ) (d : DiskName) → i < length names → (IsTrue tells → WereJournals before (take i names)) → IsFirst tells before names (get_or names i d)

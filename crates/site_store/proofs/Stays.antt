@@ -1,5 +1,5 @@
 -- What stays as it was, and what goes on.
-use Rattle.std.proofs.Common.{◌∙◌, refl, ℕ, List}
+use Rattle.std.proofs.Common.{refl, ℕ, List, arith}
 use Rattle.site_store.proofs.Words.{IsOpened, continues_same, continues_through, continues_opened, StaysAs, GoesOn}
 
 -- an image stands for what it stands for
@@ -12,9 +12,7 @@ stays_same x = opened_same x
 
 -- what stands for an image that stays stands for one before
 pub opened_through : (x y : List ℕ → Type 0) → StaysAs x y → (c : List ℕ) → IsOpened y c → IsOpened x c
-opened_through x y first c mid =
-    let from = first mid.0 mid.1 in
-    (from.0, from.1, mid.2 ∙ from.2)
+opened_through x y first c mid = grind arith
 
 pub stays_through : (x y z : List ℕ → Type 0) → StaysAs x y → StaysAs y z → StaysAs x z
 stays_through x y z first next c now = opened_through x y first c (next c now)

@@ -1,6 +1,6 @@
 -- Floors of a stretch from those of its parts.
-use Rattle.std.proofs.Common.{◌≡◌, inl, inr, ⊎_elim, ℕ, ◌+◌, ◌-◌, ◌<◌, ◌≤◌, List, ◌++◌, length, take, drop, get_or, refl, sym, ap, subst, ◌∙◌, arith}
-use Rattle.site_store.proofs.Words.{cases_lt, eqb-true, eq-eqb, get_or-take, get_or-drop, get_or_past, length-take, take-append-le, Nowhere, NoneAfter, Passes, is_byte, line_feed, NoneBetween, IsFloorFrom, IsFloorOf, IsBehindFeed}
+use Rattle.std.proofs.Common.{◌≡◌, inl, inr, ⊎_elim, ℕ, ◌+◌, ◌-◌, ◌<◌, ◌≤◌, List, ◌++◌, length, take, drop, get_or, refl, sym, subst, ◌∙◌, arith}
+use Rattle.site_store.proofs.Words.{cases_lt, eq-eqb, get_or-take, get_or-drop, get_or_past, length-take, take-append-le, Nowhere, NoneAfter, Passes, is_byte, line_feed, NoneBetween, IsFloorFrom, IsFloorOf, IsBehindFeed}
 
 -- ---- any numbers
 
@@ -13,20 +13,11 @@ floor_stays P least a b floor h le none = record { above = h.above; below = omeg
 
 -- nothing is between a floor of the upper part that was found and the end
 pub floor_found : (P : ℕ → Type 0) (from to at floor : ℕ) → IsFloorFrom P from to floor → from < floor → to ≤ at → NoneBetween P to at → IsFloorOf P at floor
-floor_found P from to at floor h found le none =
-    record {
-      above = omega arith;
-      below = omega (arith, h.below);
-      is = ⊎_elim (λ e. absurd (omega arith)) (λ p. inr p) h.is;
-      none = none_joined P floor to at h.none none;
-    }
+floor_found P from to at floor h found le none = grind arith
 
 -- the upper part has none
 pub floor_lower : (P : ℕ → Type 0) (from to at floor : ℕ) → IsFloorFrom P from to floor → floor ≤ from → NoneBetween P to at → NoneBetween P from at
-floor_lower P from to at floor h le none =
-    let above = h.above in
-    let same : floor ≡ from = omega arith in
-    none_joined P from to at (subst (λ f. NoneBetween P f to) same h.none) none
+floor_lower P from to at floor h le none = grind arith
 
 pub floor_none : (P : ℕ → Type 0) (at : ℕ) → NoneBetween P 0 at → IsFloorOf P at 0
 floor_none P at none = record { above = omega arith; below = omega arith; is = inl refl; none = none }
@@ -38,29 +29,18 @@ pub floor_of_none : (bytes : List ℕ) → Nowhere (Passes (is_byte line_feed) b
 floor_of_none bytes none = floor_none (IsBehindFeed bytes) (length bytes) (λ n low high (i, is, feed). none i (omega arith) (omega (arith, high, is)) (eq-eqb _ _ feed))
 
 pub floor_of_last : (bytes : List ℕ) (k : ℕ) → NoneAfter (Passes (is_byte line_feed) bytes) 0 (length bytes) k → Passes (is_byte line_feed) bytes k → IsFloorOf (IsBehindFeed bytes) (length bytes) (k + 1)
-floor_of_last bytes k last here = record {
-  above = omega arith;
-  below = omega (arith, last.high);
-  is = inr (k, omega arith, eqb-true _ _ here);
-  none = λ n low high (i, is, feed). last.after i (omega (arith, low, is)) (omega (arith, high, is)) (eq-eqb _ _ feed);
-}
+floor_of_last bytes k last here = grind arith
 
 -- behind the end of a log there are none
 pub none_past : (log : List ℕ) (at to : ℕ) → length log ≤ at → NoneBetween (IsBehindFeed log) at to
-none_past log at to past n low high (i, is, feed) =
-    let zero : get_or log i 0 ≡ 0 = get_or_past log i 0 (omega arith) in
-    absurd (omega arith)
+none_past log at to past n low high h = grind (arith, get_or_past)
 
 -- what was read stands in the log
 pub read_stands : (log new rest : List ℕ) (at n : ℕ) → n ≤ length new → take n new ≡ take n (drop at log) → (length (take n (new ++ rest)) ≡ n) × (take (length (take n (new ++ rest))) (drop at log) ≡ take n (new ++ rest))
-read_stands log new rest at n fits same =
-    let front = take-append-le n new rest fits in
-    let size : length (take n (new ++ rest)) ≡ n = omega (arith, ap length front, length-take n new) in
-    (size, ap (λ k. take k (drop at log)) size ∙ sym same ∙ sym front)
+read_stands log new rest at n fits same = grind (arith, take-append-le, length-take)
 
 byte_there : (bytes log : List ℕ) (at i : ℕ) → take (length bytes) (drop at log) ≡ bytes → i < length bytes → get_or log (at + i) 0 ≡ get_or bytes i 0
-byte_there bytes log at i stands lt =
-    sym (get_or-drop at log i 0) ∙ sym (get_or-take (length bytes) (drop at log) i 0 lt) ∙ ap (λ (xs : List ℕ). get_or xs i 0) stands
+byte_there bytes log at i stands lt = grind (arith, get_or-drop, get_or-take)
 
 feed_there : (bytes log : List ℕ) (at p : ℕ) → take (length bytes) (drop at log) ≡ bytes → p ≤ length bytes → IsBehindFeed bytes p → IsBehindFeed log (at + p)
 feed_there bytes log at p stands le (i, is, feed) = (at + i, omega arith, byte_there bytes log at i stands (omega arith) ∙ feed)

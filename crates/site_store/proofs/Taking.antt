@@ -1,5 +1,5 @@
 -- The topology's disk, which is taken first, and the others behind it.
-use Rattle.std.proofs.Common.{◌≢◌, inl, inr, ℕ, List, [], ◌∷◌, Bool, IsTrue, sym, subst}
+use Rattle.std.proofs.Common.{◌≢◌, inl, inr, ℕ, List, [], ◌∷◌, Bool, IsTrue, sym, subst, arith}
 use Rattle.site_store.proofs.Words.{Each, DiskName, Within, IsOpened, StaysAs, Lacks, OpenView, IsKept, kept_by, lent_all, WereJournals, IsFirst}
 use Rattle.site_store.proofs.Lending.{each_front, each_back}
 use Rattle.site_store.proofs.SameNames.{same_or_not}
@@ -30,9 +30,4 @@ first_other tells image name names n away first = (each_back (λ (m : DiskName).
 module _ (tells : Bool) (before mid : DiskName → List ℕ → Type 0) (name : DiskName) (others : IsTrue tells → (other : DiskName) → other ≢ name → Within (before other) (mid other)) where
   -- the first that wasn't opened, in front of which all were journals at first
   pub first_before : (names : List DiskName) (n : DiskName) → Each (λ n. n ≢ name) names → IsFirst tells mid names n → IsFirst tells before names n
-  first_before names n away first = record {
-    front = first.front;
-    rest = first.rest;
-    order = first.order;
-    opened = λ sure. journals_before before mid name (others sure) first.front (each_front (λ (m : DiskName). m ≢ name) first.front (n ∷ first.rest) (subst (Each (λ (m : DiskName). m ≢ name)) first.order away)) (first.opened sure);
-  }
+  first_before names n away first = grind (arith, journals_before, each_front)

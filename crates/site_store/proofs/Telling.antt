@@ -1,5 +1,5 @@
 -- The first place that doesn't fit, of lists put together.
-use Rattle.std.proofs.Common.{zero, suc, ◌≤◌, ◌≡◌, ◌≢◌, inl, inr, ⊎_elim, ℕ, ◌+◌, ◌==◌, true, false, ◌<◌, List, [], ◌∷◌, ◌++◌, length, take, drop, get_or, map, Option, Some, None, refl, sym, ap, subst, ◌∙◌, append_assoc, arith}
+use Rattle.std.proofs.Common.{zero, suc, ◌≤◌, ◌≡◌, ◌≢◌, inl, inr, ⊎_elim, ℕ, ◌+◌, ◌==◌, true, false, ◌<◌, List, [], ◌∷◌, ◌++◌, length, take, drop, get_or, map, Option, Some, refl, sym, ap, subst, ◌∙◌, append_assoc, arith}
 use Rattle.site_store.proofs.Words.{eqb-true, eq-eqb, or_cases, or_left, or_right, map-append, drop_more, take-append-drop, Each, Mem, has, clash, each_append, DiskName, Offset, Retry, ClickLine, Setting, AreKeptPlaces, IsFloorOf, Disks, Kept, OffsetIs, PendingAre, KeptDisk, OpenView, kept_all, Says, AreRecordsOf, FitsOn, KeptPlace, Fits, IsStart, on_disk, places_at, all_kept, IsTold, Misplaced}
 use Rattle.site_store.specs.Kept.{IsFirst}
 use Rattle.site_store.proofs.Lending.{each_mem}
@@ -14,35 +14,17 @@ module _ (ls : List ClickLine) where
   first_alone disk kept floor misfit is = record { before = []; after = []; order = refl; fit = tt; misfit = misfit; floor_is = is }
 
   pub first_later : (xs ys : List KeptPlace) (m : Misplaced) → Each (Fits ls) xs → IsFirst ls ys m → IsFirst ls (xs ++ ys) m
-  first_later xs ys m fit h =
-      record {
-        before = xs ++ h.before;
-        after = h.after;
-        order = ap (λ (zs : List KeptPlace). xs ++ zs) h.order ∙ sym (append_assoc xs h.before _);
-        fit = each_append (Fits ls) xs h.before fit h.fit;
-        misfit = h.misfit;
-        floor_is = h.floor_is;
-      }
+  first_later xs ys m fit h = grind (arith, append_assoc, each_append)
 
   pub first_longer : (xs ys : List KeptPlace) (m : Misplaced) → IsFirst ls xs m → IsFirst ls (xs ++ ys) m
-  first_longer xs ys m h =
-      record {
-        before = h.before;
-        after = h.after ++ ys;
-        order = ap (λ (zs : List KeptPlace). zs ++ ys) h.order ∙ append_assoc h.before _ ys;
-        fit = h.fit;
-        misfit = h.misfit;
-        floor_is = h.floor_is;
-      }
+  first_longer xs ys m h = grind (arith, append_assoc)
 
   pub told_later : (xs ys : List KeptPlace) (told : Option Misplaced) → Each (Fits ls) xs → IsTold ls ys told → IsTold ls (xs ++ ys) told
-  told_later xs ys None fit h = each_append (Fits ls) xs ys fit h
-  told_later xs ys (Some m) fit h = first_later xs ys m fit h
+  told_later xs ys told fit h = grind (arith, each_append, first_later)
 
   -- nothing is told where all fit
   pub none_told : (xs : List KeptPlace) (told : Option Misplaced) → ((m : Misplaced) → told ≡ Some m → ⊥) → IsTold ls xs told → Each (Fits ls) xs
-  none_told xs None apart h = h
-  none_told xs (Some m) apart h = absurd (apart m refl)
+  none_told xs told apart h = grind arith
 
   pub first_here : (disk : DiskName) (ps : List ℕ) (i : ℕ) (m : Misplaced) → i < length ps → Each (Fits ls) (on_disk disk (take i ps)) → IsFirst ls (on_disk disk (get_or ps i 0 ∷ [])) m → IsFirst ls (on_disk disk ps) m
   first_here disk ps i m lt before this =
@@ -70,8 +52,7 @@ first_clash ls xs m h all =
 -- the places of a disk among these fit where all do
 pub fit_at : (ls : List ClickLine) (disks : List KeptDisk) (d : KeptDisk) → Each (Fits ls) (all_kept disks) → Mem d disks → Each (Fits ls) (places_at d.name d.kept)
 fit_at ls [] d all m = absurd m
-fit_at ls (o ∷ os) d all (inl e) = subst (λ (x : KeptDisk). Each (Fits ls) (places_at x.name x.kept)) e (each_before (Fits ls) (places_at o.name o.kept) (all_kept os) all)
-fit_at ls (o ∷ os) d all (inr m) = fit_at ls os d (each_behind (Fits ls) (places_at o.name o.kept) (all_kept os) all) m
+fit_at ls (o ∷ os) d all h = grind (arith, each_before, each_behind, fit_at ls os d)
 
 -- all fit where those of each disk do
 pub all_fit : (ls : List ClickLine) (disks : List KeptDisk) → ((d : KeptDisk) → Mem d disks → Each (Fits ls) (places_at d.name d.kept)) → Each (Fits ls) (all_kept disks)

@@ -1,5 +1,5 @@
 -- What the disk of a name keeps.
-use Rattle.std.proofs.Common.{◌≡◌, ◌≢◌, ◌⊎◌, inl, inr, ℕ, List, [], ◌∷◌, ◌++◌, map, refl, sym, ◌∙◌, ap, subst}
+use Rattle.std.proofs.Common.{◌≡◌, ◌≢◌, ◌⊎◌, inl, inr, ℕ, List, [], ◌∷◌, ◌++◌, map, refl, ◌∙◌, ap, subst, arith}
 use Rattle.std.specs.Prelude.{flat_map}
 use Rattle.site_store.proofs.Words.{Each, EachPair, Mem, DiskName, IsKeptIn, IsJournalOf, WereJournals, Kept, KeptDisk, OpenView, KeepsAs, IsOfKind, IsKept, kept_by, kept_all}
 use Rattle.outside.specs.declared.store.DiskName.TheVariants as name
@@ -9,8 +9,7 @@ use Rattle.site_store.proofs.SameNames.{same_or_not}
 -- the disk of a name that is among theirs
 pub at_name : (disks : List KeptDisk) (n : DiskName) → Mem n (map (λ d. d.name) disks) → (d : KeptDisk) × Mem d disks × (d.name ≡ n)
 at_name [] n m = absurd m
-at_name (d ∷ ds) n (inl e) = (d, inl refl, e)
-at_name (d ∷ ds) n (inr m) = let x = at_name ds n m in (x.0, inr x.1, x.2)
+at_name (d ∷ ds) n h = grind (arith, at_name ds n)
 
 -- there is one of this name or none
 pub find_name : (disks : List KeptDisk) (n : DiskName) → ((d : KeptDisk) × Mem d disks × (d.name ≡ n)) ⊎ ((d : KeptDisk) → Mem d disks → d.name ≡ n → ⊥)
@@ -25,16 +24,12 @@ find_name (d ∷ ds) n = elim (same_or_not d.name n) [
 
 pub named_mem : (disks : List KeptDisk) (d : KeptDisk) → Mem d disks → Mem d.name (map (λ d. d.name) disks)
 named_mem [] d m = absurd m
-named_mem (o ∷ os) d (inl e) = inl (ap (λ (x : KeptDisk). x.name) e)
-named_mem (o ∷ os) d (inr m) = inr (named_mem os d m)
+named_mem (o ∷ os) d h = grind (arith, named_mem os d)
 
 -- where names differ, one name is one disk's
 pub one_named : (disks : List KeptDisk) → EachPair (λ one other. one ≢ other) (map (λ d. d.name) disks) → (a b : KeptDisk) → Mem a disks → Mem b disks → a.name ≡ b.name → a ≡ b
 one_named [] apart a b m k e = absurd m
-one_named (o ∷ os) apart a b (inl m) (inl k) e = sym m ∙ k
-one_named (o ∷ os) apart a b (inl m) (inr k) e = absurd (each_mem (λ (n : DiskName). o.name ≢ n) b.name _ apart.0 (named_mem os b k) (ap (λ (x : KeptDisk). x.name) m ∙ e))
-one_named (o ∷ os) apart a b (inr m) (inl k) e = absurd (each_mem (λ (n : DiskName). o.name ≢ n) a.name _ apart.0 (named_mem os a m) (ap (λ (x : KeptDisk). x.name) k ∙ sym e))
-one_named (o ∷ os) apart a b (inr m) (inr k) e = one_named os apart.1 a b m k e
+one_named (o ∷ os) apart a b h k e = grind (arith, each_mem, named_mem, one_named os apart.1 a b)
 
 -- ---- what it keeps is a journal of its kind
 
@@ -51,9 +46,7 @@ journal_of (name.Output s j) kept c (v, is) keeps = (v, subst (λ (k : Kept). Ke
 pub was_journal : (before : DiskName → List ℕ → Type 0) (disks : List KeptDisk) (n : DiskName) → Each (λ d. IsOfKind d.name d.kept) disks → Each (IsKept before) disks → Mem n (map (λ d. d.name) disks)
     → IsKeptIn (before n) (IsJournalOf n)
 was_journal before [] n kinds kept m = absurd m
-was_journal before (d ∷ ds) n kinds kept (inl e) =
-    let x = kept.0 in subst (λ (n : DiskName). IsKeptIn (before n) (IsJournalOf n)) e (x.0, x.1, journal_of d.name d.kept x.0 kinds.0 x.2)
-was_journal before (d ∷ ds) n kinds kept (inr m) = was_journal before ds n kinds.1 kept.1 m
+was_journal before (d ∷ ds) n kinds kept h = grind (arith, was_journal before ds n kinds.1 kept.1)
 
 -- ---- open disks
 

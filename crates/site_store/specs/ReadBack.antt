@@ -1,5 +1,5 @@
 -- What reading disks back gives.
-use Rattle.std.specs.Prelude.{◌≡◌, ◌≢◌, ◌≤◌, ◌⊎◌, ⊤, ℕ, List, [], ◌∷◌, Bool, true, false, filter, IsTrue}
+use Rattle.std.specs.Prelude.{◌≡◌, ◌≢◌, ◌≤◌, ◌⊎◌, ⊤, ℕ, List, [], ◌∷◌, ◌||◌, Bool, true, false, filter, IsTrue}
 use Rattle.list_words.specs.Lists.{Each}
 use Rattle.outside.specs.declared.store.DiskName.{DiskName}
 use Rattle.outside.specs.declared.store.DiskName.TheVariants as name
@@ -38,6 +38,10 @@ abbrev pub is_output : DiskName → Bool
 is_output (name.Output site joiner) = true
 is_output other = false
 
+-- whether a disk of this name is read back
+abbrev pub is_read : DiskName → Bool
+is_read disk = is_replica disk || is_output disk
+
 -- those disks among these
 abbrev pub replicas : {D : Type 0} → List (LentDisk D) → List (LentDisk D)
 replicas disks = filter (λ d. is_replica d.name) disks
@@ -62,11 +66,11 @@ pub record IsOnlyRead {D : Type 0} (tells : Bool) (seen : D → List ℕ) (image
   pub count : faults old.disk ≤ faults new.disk
   pub calm : IsTrue planned → (old.name ≢ name.Topology → is_down old.disk ≡ false) → faults new.disk ≡ faults old.disk
 
--- A fault is of this disk: its count rose, and not where it keeps to its plan and is up, or a stop might have left bytes of it that are damaged as
+-- A fault is of this disk: it is read, and its count rose, and not where it keeps to its plan and is up, or a stop might have left bytes of it that are damaged as
 -- its kind reads them. Want of memory is free.
 abbrev pub IsToldBy : {D : Type 0} → Bool → (D → List ℕ → Type 0) → (D → ℕ) → Bool → (D → Bool) → (old new : LentDisk D) → RunFault → Type 0
 IsToldBy tells image faults planned is_down old new f =
-    IsOfDisk (λ disk. (old.name ≡ disk) × Rose (faults old.disk) (faults new.disk) × (IsTrue planned → (old.name ≢ name.Topology → is_down old.disk ≡ false) → ⊥))
+    IsOfDisk (λ disk. (old.name ≡ disk) × (is_read disk ≡ true) × Rose (faults old.disk) (faults new.disk) × (IsTrue planned → (old.name ≢ name.Topology → is_down old.disk ≡ false) → ⊥))
     (λ disk at. (old.name ≡ disk) × (IsTrue tells → (c : List ℕ) × image old.disk c × damaged_by disk c at)) f
 
 -- what one disk is read as, by its name

@@ -6,6 +6,7 @@ mod checks;
 pub mod laws;
 mod names;
 mod open_disk;
+mod opened;
 pub(crate) mod opening;
 mod record;
 
@@ -14,4 +15,5 @@ pub use asking::ask;
 pub(crate) use bare::{give_bare, journals_of};
 pub use checks::{first_limit, topology_misfit};
 pub use open_disk::{AnyJournal, OpenDisk};
+pub use opened::OpenedDisk;
 pub use record::write_topology;

@@ -11,8 +11,8 @@ mod reading;
 
 pub use adding::add_row;
 pub use disks::{
-    AnyJournal, OpenDisk, OpenStore, ask, first_limit, give_back, open_disks, topology_misfit,
-    write_topology,
+    AnyJournal, OpenDisk, OpenStore, OpenedDisk, ask, first_limit, give_back, open_disks,
+    topology_misfit, write_topology,
 };
 pub use lent::{LentDisk, give_all, read_back};
 pub use opening::open_store;

@@ -5,8 +5,8 @@ use mathlib.Core.List.{IsPrefix}
 use Rattle.std.specs.List.{list_any}
 use Rattle.std.proofs.lemmas.Bool.{ltb-true, ltb-false}
 use Rattle.std.proofs.lemmas.List.{append-nil}
+use Rattle.std.proofs.lemmas.List.Sums.{fold_push}
 use Rattle.std.proofs.lemmas.List.Elements.{filter-append}
-use Rattle.outside.specs.declared.store.DiskName.{DiskName}
 use Rattle.air_bus.specs.declared.entry.Entry.{Entry}
 use Rattle.air_bus.specs.declared.entry.Entry.TheVariants.{Begin, End, Stop}
 use Rattle.air_bus.specs.declared.entry.Input.{Input}
@@ -16,11 +16,12 @@ use Rattle.air_bus.specs.History.{phase, phase_after, node_of, next_input}
 use Rattle.air_bus.proofs.Phases.{phase_here}
 use Rattle.bus_seat.specs.Seats.{Sight, Begins, Adds, Looks, next_for}
 use Rattle.site_node.specs.declared.kind.Done.{Done}
+use Rattle.site_node.specs.declared.kind.NodeDisk.{NodeDisk}
 use Rattle.site_node.specs.declared.kind.NodeFault.{NodeFault}
 use Rattle.site_node.specs.declared.kind.NodeFault.TheVariants.{Stopped, Disk, Damaged, Read, Spent, Memory}
 use Rattle.site_node.specs.declared.kind.SiteNode.{Ghosts}
 use Rattle.site_node.specs.Faults.{MeetsStops, IsOfTurn, was_stopped, was_shut_out}
-use Rattle.site_workers.specs.Works.{WorkerView, Path, StandsAt, Reached, Grew, HasMet, KeepsPlan, is_stop, stop_count, open_stops}
+use Rattle.site_workers.specs.Works.{WorkerView, Path, StandsAt, Reached, Grew, HasMet, KeepsPlan, is_begin, is_in_turn, is_stop, stop_count, open_stops}
 use Rattle.site_workers.specs.Rounds.{WentOn}
 
 pub none_of : {A : Type 0} (o : Option A) (b : Bool) → b ≡ is_some o → b ≡ false → o ≡ None
@@ -104,6 +105,9 @@ counted_more es e = ap length (filter-append is_stop es (e ∷ [])) ∙ length-a
 any_more : (old : List Entry) (e : Entry) → is_stop e ≡ false → list_any is_stop (old ++ e ∷ []) ≡ list_any is_stop old
 any_more [] e never = ap (λ b. b || false) never
 any_more (x ∷ xs) e never = ap (λ b. is_stop x || b) (any_more xs e never)
+
+pub in_turn : (old new : List Entry) (e : Entry) → new ≡ old ++ e ∷ [] → is_begin e ≡ true → is_in_turn new ≡ true
+in_turn old new e is begun = ap is_in_turn is ∙ fold_push (λ before x. is_begin x) false old e ∙ begun
 
 -- what a call added with node n's seat
 pub record Added (n : ℕ) (v w : Sight) (e : Entry) : Type 0 where
@@ -274,7 +278,7 @@ module _ {N : Type 0} (m : Ghosts N) (v : N) (s0 s1 : Sight) (i : Input) (wants 
   -- that is open still
   pub turn_left : (w : N) (f : NodeFault) → m.number w ≡ m.number v → m.disk_count w ≡ m.disk_count v → (IsTrue m.planned → Keeps w (Some f) s1.mine)
       → (IsTrue m.tells → (s t : m.State) → m.stands v s → m.leads s (Begin (m.number v) i) t → m.stands w t)
-      → (IsTrue m.tells → (s t : m.State) → m.stands v s → m.leads s (Begin (m.number v) i) t → (disk : DiskName) (place : ℕ) → f ≢ Damaged disk place)
+      → (IsTrue m.tells → (s t : m.State) → m.stands v s → m.leads s (Begin (m.number v) i) t → (disk : NodeDisk) (place : ℕ) → f ≢ Damaged disk place)
       → ((s : m.State) → m.stands v s → (epoch : ℕ) → f ≡ Spent epoch → m.spends s i ≡ Some epoch)
       → Grown w → WentOn m (record { node = v; seat = s0; fault = None }) (record { node = w; seat = s1; fault = Some f })
   turn_left w f number disks plan stands whole spent grown =

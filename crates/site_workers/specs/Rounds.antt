@@ -7,6 +7,7 @@ use Rattle.air_bus.specs.declared.entry.Phase.{Phase}
 use Rattle.air_bus.specs.declared.entry.Phase.TheVariants.{Idle}
 use Rattle.air_bus.specs.History.{phase}
 use Rattle.bus_seat.specs.Views.{made_by}
+use Rattle.site_node.specs.declared.kind.NodeDisk.{NodeDisk}
 use Rattle.site_node.specs.declared.kind.NodeFault.{NodeFault}
 use Rattle.site_node.specs.declared.kind.SiteNode.{Ghosts}
 use Rattle.site_workers.specs.Works.{WorkerView, LeadsOn, GrowsOn, IsCaused, KeepsPlan, Grew}
@@ -41,8 +42,8 @@ pub record Rests {N S : Type 0} (number : N → ℕ) (stands : N → S → Type 
   pub rests : (s : S) → stands n.0 s → at_rest_as s true
 
 -- the fault that ended each node's work, if one did, has its cause
-abbrev pub AreCaused : {N : Type 0} → (faults log_faults : N → ℕ) → List (N × Option NodeFault) → Type 0
-AreCaused faults log_faults nodes = All (λ w. IsCaused faults log_faults w.0 w.1) nodes
+abbrev pub AreCaused : {N : Type 0} → (disk_faults : N → NodeDisk → ℕ) → (log_faults : N → ℕ) → List (N × Option NodeFault) → Type 0
+AreCaused disk_faults log_faults nodes = All (λ w. IsCaused disk_faults log_faults w.0 w.1) nodes
 
 -- one of these workers has a fault
 abbrev pub OneHasFault : {N : Type 0} → List (WorkerView N) → Type 0

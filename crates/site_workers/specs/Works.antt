@@ -1,8 +1,7 @@
 -- What a worker does, by the entries that it adds.
-use Rattle.std.specs.Prelude.{◌≡◌, ◌≢◌, ℕ, zero, suc, ◌+◌, ◌≤◌, Bool, true, false, List, [], ◌∷◌, ◌++◌, length, filter, Option, None, Some}
+use Rattle.std.specs.Prelude.{◌≡◌, ◌≢◌, ℕ, zero, suc, ◌+◌, ◌≤◌, Bool, true, false, List, [], ◌∷◌, ◌++◌, length, filter, fold, Option, None, Some}
 use Rattle.std.specs.List.{list_any}
 use mathlib.Core.List.{IsPrefix}
-use Rattle.outside.specs.declared.store.DiskName.{DiskName}
 use Rattle.air_bus.specs.declared.entry.Entry.{Entry}
 use Rattle.air_bus.specs.declared.entry.Entry.TheVariants.{Begin, End, Stop}
 use Rattle.air_bus.specs.declared.entry.Input.{Input}
@@ -10,8 +9,9 @@ use Rattle.air_bus.specs.declared.entry.Phase.{Phase}
 use Rattle.air_bus.specs.declared.entry.Phase.TheVariants.{Busy}
 use Rattle.air_bus.specs.History.{phase}
 use Rattle.bus_seat.specs.Seats.{Sight}
+use Rattle.site_node.specs.declared.kind.NodeDisk.{NodeDisk}
 use Rattle.site_node.specs.declared.kind.NodeFault.{NodeFault}
-use Rattle.site_node.specs.declared.kind.NodeFault.TheVariants.{Stopped, Disk, Damaged, Read, Spent}
+use Rattle.site_node.specs.declared.kind.NodeFault.TheVariants.{Stopped, Disk, Damaged, Read, Spent, Memory}
 
 -- the entries lead from one state to another
 abbrev pub Path : {S : Type 0} → (S → Entry → S → Type 0) → S → List Entry → S → Type 0
@@ -23,11 +23,9 @@ abbrev pub Reached : {N : Type 0} → (N → N → Type 0) → ℕ → N → N �
 Reached grown zero v w = v ≡ w
 Reached grown (suc k) v w = (u : _) × Reached grown k v u × grown u w
 
--- a node that stopped too often, or a disk of which wasn't opened again, has met a fault of its disks, and one that couldn't read one of
--- its log
-pub record IsCaused {N : Type 0} (faults log_faults : N → ℕ) (node : N) (fault : Option NodeFault) : Type 0 where
-  pub stopped : fault ≡ Some Stopped → 1 ≤ faults node
-  pub disk : (disk : DiskName) → fault ≡ Some (Disk disk) → 1 ≤ faults node
+-- a disk that wasn't opened again has met a fault, and so has a log that couldn't be read
+pub record IsCaused {N : Type 0} (disk_faults : N → NodeDisk → ℕ) (log_faults : N → ℕ) (node : N) (fault : Option NodeFault) : Type 0 where
+  pub disk : (disk : NodeDisk) → fault ≡ Some (Disk disk) → 1 ≤ disk_faults node disk
   pub read : fault ≡ Some Read → 1 ≤ log_faults node
 
 -- the node went down within its turn
@@ -40,13 +38,24 @@ is_stop (Stop node landed) = true
 abbrev pub stop_count : List Entry → ℕ
 stop_count entries = length (filter is_stop entries)
 
--- A node whose entries have a stop has met a fault of its disks. It has at most eight, and eight where its work ended as stopped. One whose
--- work goes on waits for no restart.
+-- it begins a turn
+abbrev pub is_begin : Entry → Bool
+is_begin (Begin node input) = true
+is_begin (End node noted packets kept) = false
+is_begin (Stop node landed) = false
+
+-- whether the last of the entries begins a turn
+abbrev pub is_in_turn : List Entry → Bool
+is_in_turn entries = fold (λ before e. is_begin e) false entries
+
+-- A node whose entries have a stop has met a fault of its disks. It has at most eight, and eight where its work ended as stopped; where it
+-- ended otherwise, and not for want of memory, a turn is open. One whose work goes on waits for no restart.
 pub record HasMet {N : Type 0} (faults : N → ℕ) (waits : N → Bool) (node : N) (fault : Option NodeFault) (mine : List Entry) : Type 0 where
   pub up : fault ≡ None → waits node ≡ false
   pub stops : list_any is_stop mine ≡ true → 1 ≤ faults node
   pub most : stop_count mine ≤ 8
   pub ended : fault ≡ Some Stopped → stop_count mine ≡ 8
+  pub within : (f : NodeFault) → fault ≡ Some f → f ≢ Stopped → f ≢ Memory → is_in_turn mine ≡ true
 
 -- how many stops a node met in a turn that isn't closed: two where a disk wasn't opened again
 abbrev pub open_stops : Option NodeFault → ℕ
@@ -84,7 +93,7 @@ module _ {N S : Type 0} (leads : S → Entry → S → Type 0) (phase_of : S →
   pub record StandsAt (node : N) (fault : Option NodeFault) (mine : List Entry) (s : S) : Type 0 where
     pub at : stands node s
     pub phased : fault ≡ None → phase_of s ≡ phase (number node) mine
-    pub whole : (disk : DiskName) (place : ℕ) → fault ≢ Some (Damaged disk place)
+    pub whole : (disk : NodeDisk) (place : ℕ) → fault ≢ Some (Damaged disk place)
     pub spent : (epoch : ℕ) → fault ≡ Some (Spent epoch) → IsSpent node s epoch
 
   -- Wherever the node stood, the entries that were added lead on to where it stands.

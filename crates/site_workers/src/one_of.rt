@@ -54,6 +54,8 @@ impl<A: SiteNode, B: SiteNode, C: SiteNode, D: SiteNode> SiteNode for OneOf<A, B
 
     ghost faults = { one.by A.faults B.faults C.faults D.faults };
 
+    ghost disk_faults = { one.by A.disk_faults B.disk_faults C.disk_faults D.disk_faults };
+
     ghost stops_left = { one.has A.stops_left B.stops_left C.stops_left D.stops_left };
 
     ghost log_faults = { one.by A.log_faults B.log_faults C.log_faults D.log_faults };

@@ -76,7 +76,7 @@ pub fn run<R: Threads + Wait + Sync, N: SiteNode + Send + Drop, G: Gate>(
         KeepsPlan N.stops_left N.faults N.waits (slice_index_or nodes.items i a) None [] (slice_index_or r.nodes.items i b).0 (slice_index_or r.nodes.items i b).1 (made_by i r.air.history)) }
     // A node has a fault where not all are at rest. Its cause is met where it is one of disks or of a log.
     ensures fault { IfOk result (λ r. r.rest ≡ false → HasFault r.nodes.items) }
-    ensures caused { IfOk result (λ r. AreCaused N.faults N.log_faults r.nodes.items) }
+    ensures caused { IfOk result (λ r. AreCaused N.disk_faults N.log_faults r.nodes.items) }
     // A node that stopped within a turn has met a fault of its disks.
     ensures met { IfOk result (λ r. (i : ℕ) (b : _) → i < length nodes.items →
         HasMet N.faults N.waits (slice_index_or r.nodes.items i b).0 (slice_index_or r.nodes.items i b).1 (made_by i r.air.history)) }
@@ -178,7 +178,7 @@ fn dismiss<N: SiteNode + Drop>(
     requires nodes { (nodes.old.items ≡ []) × (length workers.items ≤ vec_capacity nodes.old) }
     ensures seats { (seats.new.items ≡ map (λ (w : WorkerView N). w.seat) workers.items) × (length workers.items < vec_capacity seats.new) }
     ensures nodes { nodes.new.items ≡ map (λ (w : WorkerView N). (w.node, w.fault)) workers.items }
-    ensures caused { AreCaused N.faults N.log_faults nodes.new.items }
+    ensures caused { AreCaused N.disk_faults N.log_faults nodes.new.items }
     ensures met { All (λ (w : WorkerView N). HasMet N.faults N.waits w.node w.fault w.seat.mine) workers.items }
 {
     for worker in workers {
@@ -197,7 +197,7 @@ fn dismiss_one<N: SiteNode + Drop>(
     ensures nodes { nodes.new.items ≡ nodes.old.items ++ (worker.node, worker.fault) ∷ [] }
     ensures room { (vec_capacity seats.new ≡ vec_capacity seats.old) × (vec_capacity nodes.new ≡ vec_capacity nodes.old) }
     ensures lens { (vec_len seats.new ≡ vec_len seats.old + 1) × (vec_len nodes.new ≡ vec_len nodes.old + 1) }
-    ensures caused { AreCaused N.faults N.log_faults nodes.old.items → AreCaused N.faults N.log_faults nodes.new.items }
+    ensures caused { AreCaused N.disk_faults N.log_faults nodes.old.items → AreCaused N.disk_faults N.log_faults nodes.new.items }
     ensures met { HasMet N.faults N.waits worker.node worker.fault worker.seat.mine }
 {
     let (node, seat, fault) = worker.into_parts();

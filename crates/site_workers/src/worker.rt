@@ -34,7 +34,7 @@ pub struct Worker<N: SiteNode> {
     ghost whose: { seat.number ≡ Some (N.number node) },
     ghost idle: { fault ≡ None → IsIdle (N.number node) (N.waits node) seat },
     ghost is_up: { fault ≡ None → up ≡ true → phase (N.number node) seat.mine ≡ Idle },
-    ghost caused: { IsCaused N.faults N.log_faults node fault },
+    ghost caused: { IsCaused N.disk_faults N.log_faults node fault },
     ghost counted: { fault ≡ None → (stops ≡ stop_count seat.mine) × (stops < 8) },
     ghost met: { HasMet N.faults N.waits node fault seat.mine },
 }
@@ -78,7 +78,7 @@ impl<N: SiteNode> Worker<N> {
         ensures node { result.0 ≡ self.node }
         ensures seat { result.1 ≡ self.seat }
         ensures fault { result.2 ≡ self.fault }
-        ensures caused { IsCaused N.faults N.log_faults result.0 result.2 }
+        ensures caused { IsCaused N.disk_faults N.log_faults result.0 result.2 }
         ensures met { HasMet N.faults N.waits result.0 result.2 result.1.mine }
     {
         let Worker {

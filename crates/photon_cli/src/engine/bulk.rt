@@ -17,7 +17,7 @@ use lossy_link::{Fate, Plan, Rule};
 use mem_outside::{MemFile, MemSource};
 use outside::{Gate, Sink};
 use report_text::write_totals;
-use site_run::{Ran, RunFault, status};
+use site_run::{Machine, Ran, RunFault, status};
 use std::alloc::{AllocError, Global};
 use std::sync::Wait;
 use std::thread::Threads;
@@ -84,18 +84,12 @@ fn without_reads(told: RunFault) -> RunFault
 /// Makes both logs from the seed, runs both sites over them as in a drill, and writes the totals line.
 ///
 /// It keeps both logs in memory, once for each node that reads one.
-pub fn bulk_totals<R, K, G>(
-    rt: &R,
-    alloc: Global,
+pub fn bulk_totals<K: Sink>(
+    machine: Machine<'_, impl Threads + Wait + Sync, impl Gate>,
     wanted: &BulkOptions<'_>,
     out: &mut K,
-    gate: &G,
     ran: &mut Ran,
 ) -> Result<(), RunFault>
-where
-    R: Threads + Wait + Sync,
-    K: Sink,
-    G: Gate,
     requires ranges { AreBulkRanges (bulk_values wanted.now) }
     ensures ran { OnOk result (IsSomeAnd ran.new.log (IsBulkRun (bulk_values wanted.now))) }
     ensures done { IsTrue K.tells → OnOk result (PrintsTotals (bulk_values wanted.now) ran.new.log (K.held out.old) (K.held out.new)) }
@@ -113,10 +107,10 @@ where
         Ok(table) => table,
         Err(bad) => return Err(bad),
     };
-    let Ok(mut files) = bulk_files(alloc, wanted.seed, wanted.clicks) else {
+    let Ok(mut files) = bulk_files(machine.alloc, wanted.seed, wanted.clicks) else {
         return Err(RunFault::Memory);
     };
-    let plan = match bulk_plan(alloc) {
+    let plan = match bulk_plan(machine.alloc) {
         Ok(plan) => plan,
         Err(_) => return Err(RunFault::Memory),
     };
@@ -126,7 +120,7 @@ where
         horizon: HORIZON,
         nodes: wanted.nodes,
     };
-    let lines = match drilled_lines(rt, alloc, &asked, table, plan, &mut files, gate, ran) {
+    let lines = match drilled_lines(machine, &asked, table, plan, &mut files, ran) {
         Ok(lines) => lines,
         Err(fault) => return Err(without_reads(fault)),
     };

@@ -26,8 +26,7 @@ use outside::{Gate, Sink, Source};
 use report_text::write_report;
 use site_laws::stores::empty_store;
 use site_run::meaning::means;
-use site_run::{Names, Outcome, Ran, RunFault, run_sites};
-use std::alloc::Global;
+use site_run::{Machine, Names, Outcome, Ran, RunFault, run_sites};
 use std::sync::Wait;
 use std::thread::Threads;
 use time_shards::Table;
@@ -35,21 +34,14 @@ use verify_pass::classify;
 
 /// Checks both logs, runs both sites over a store in memory that is empty at first, and gives the report's line for each distinct
 /// click id. The plan says which packets are lost, repeated or late, which replica is dead and at which calls a disk stops.
-pub fn drilled_lines<R, F, G>(
-    rt: &R,
-    alloc: Global,
+pub fn drilled_lines<F: Source<Log: Drop>>(
+    machine: Machine<'_, impl Threads + Wait + Sync, impl Gate>,
     wanted: &RunOptions<'_>,
     table: Table,
     plan: Plan,
     files: &mut F,
-    gate: &G,
     ran: &mut Ran,
 ) -> Result<Vec<ReportLine>, RunFault>
-where
-    R: Threads + Wait + Sync,
-    F: Source,
-    G: Gate,
-    F::Log: Drop,
     requires ranges { AreInRanges (values_in wanted.now).nodes }
     requires table { IsTextOf (values_in wanted.now).nodes.shards table }
     ensures done { IsTrue F.Log.tells → IfOk result (λ lines. Drills (F.bytes files.old) (values_in wanted.now) plan ran.new.log lines.items) }
@@ -62,6 +54,7 @@ where
 {
     empty_store::<MemStore>();
     means::<MemStore>();
+    let Machine { rt, alloc, gate } = machine;
     let clicks = match checked_logs(alloc, files, wanted.queries, wanted.clicks) {
         Ok(clicks) => clicks,
         Err(fault) => return Err(fault),
@@ -89,22 +82,14 @@ where
 }
 
 /// Drills with the plan of a file over the two logs of these names, and writes the report.
-pub fn drill_logs<R, F, K, G>(
-    rt: &R,
-    alloc: Global,
+pub fn drill_logs<F: Source<Log: Drop>, K: Sink>(
+    machine: Machine<'_, impl Threads + Wait + Sync, impl Gate>,
     wanted: &RunOptions<'_>,
     plan: &str,
     files: &mut F,
     out: &mut K,
-    gate: &G,
     ran: &mut Ran,
 ) -> Result<(), RunFault>
-where
-    R: Threads + Wait + Sync,
-    F: Source,
-    K: Sink,
-    G: Gate,
-    F::Log: Drop,
     requires ranges { AreInRanges (values_in wanted.now).nodes }
 
     // Where it ends well, the report of the run was written whole; at a failed write a prefix of it went out, at any other fault
@@ -133,11 +118,11 @@ where
         Ok(table) => table,
         Err(bad) => return Err(bad),
     };
-    let plan = match plan_in_file(alloc, files, plan) {
+    let plan = match plan_in_file(machine.alloc, files, plan) {
         Ok(plan) => plan,
         Err(fault) => return Err(fault),
     };
-    let lines = match drilled_lines(rt, alloc, wanted, table, plan, files, gate, ran) {
+    let lines = match drilled_lines(machine, wanted, table, plan, files, ran) {
         Ok(lines) => lines,
         Err(fault) => return Err(fault),
     };

@@ -7,6 +7,7 @@ ghost use Rattle.run_fault.specs.declared.fault.StorePlace.{StorePlace};
 ghost use Rattle.turn_defs.specs.Setting.{Setting};
 ghost use Rattle.run_fault.specs.declared.fault.RunFault.TheVariants as fault;
 ghost use Rattle.site_run.specs.Over.{EndsOver};
+ghost use Rattle.site_run.specs.Refused.{NamesFailed};
 ghost use Rattle.photon_cli.specs.LogFaults.{IsEarly, IsFailedRead, IsOfLogs, IsPast};
 ghost use Rattle.photon_cli.specs.Join.{BeginsJoin, HasRun, IsAsked, IsHistory, Prints, PrintsAfresh, PrintsPrefix, Refuses, no_plan};
 ghost use Rattle.command_words.specs.Words.{AreInRanges, values_in};
@@ -20,8 +21,7 @@ use lossy_link::Plan;
 use outside::{Gate, Sink, Source, Store};
 use report_text::write_report;
 use site_run::meaning::means;
-use site_run::{Names, Outcome, Ran, RunFault, run_sites};
-use std::alloc::Global;
+use site_run::{Machine, Names, Outcome, Ran, RunFault, run_sites};
 use std::sync::Wait;
 use std::thread::Threads;
 use verify_pass::classify;
@@ -29,25 +29,15 @@ use verify_pass::classify;
 /// Joins the clicks under one name with the queries under another over the store of that name, and writes the report.
 ///
 /// It reads both logs whole first, in pieces of 64 KiB, and keeps the distinct ids of one log at a time, and those of the clicks to the end.
-pub fn join_logs<R, F, S, K, G>(
-    rt: &R,
-    alloc: Global,
+pub fn join_logs<F: Source<Log: Drop>, S: Store<Disk: Drop>, K: Sink>(
+    machine: Machine<'_, impl Threads + Wait + Sync, impl Gate>,
     wanted: &RunOptions<'_>,
     state: &str,
     files: &mut F,
     store: &mut S,
     out: &mut K,
-    gate: &G,
     ran: &mut Ran,
 ) -> Result<(), RunFault>
-where
-    R: Threads + Wait + Sync,
-    F: Source,
-    S: Store,
-    K: Sink,
-    G: Gate,
-    F::Log: Drop,
-    S::Disk: Drop,
     requires ranges { AreInRanges (values_in wanted.now).nodes }
 
     // Where it ends well, the report of what the disks keep was written whole; at a failed write a prefix of it went out, at any
@@ -74,11 +64,16 @@ where
     ensures disks { Counts (S.faults store.old) (S.faults store.new) ((place : StorePlace) × (result ≡ Err (fault.Store place))) }
     ensures write { Counts (K.faults out.old) (K.faults out.new) (result ≡ Err fault.Write) }
 
+    // What the fault of a run names has failed by its history.
+    ensures named { IsTrue S.Disk.tells → IsTrue F.Log.tells → (g : Setting) → IsAsked (F.bytes files.old) (values_in wanted.now) g
+        → IfErr result (λ f. (ran.new ≡ ran.old) ⊎ IfSome ran.new.log (λ l. NamesFailed g l.air.history f)) }
+
     // How it ends over the store, for whatever setting the values ask for.
     ensures ends { IsTrue S.Disk.tells → IsTrue F.Log.tells → (g : Setting) → IsAsked (F.bytes files.old) (values_in wanted.now) g → EndsOver g (S.image store.old) (S.image store.new)
         (Rose (F.faults files.old) (F.faults files.new)) (Rose (S.faults store.old) (S.faults store.new)) ran.new.log result }
 {
     means::<S>();
+    let Machine { rt, alloc, gate } = machine;
     let table = match table_in(wanted.nodes.shards) {
         Ok(table) => table,
         Err(bad) => return Err(bad),

@@ -1,17 +1,18 @@
-use Rattle.std.proofs.Common.{◌≡◌, ◌+◌, ◌*◌, ◌∷◌, [], ℕ, List, arith, true, None, Some, inl, refl, sym, ◌∙◌, ap, subst, length, map}
-use Rattle.std.specs.Prelude.{IfErr, IsTrue}
+use Rattle.std.proofs.Common.{◌≡◌, ◌∷◌, [], ℕ, List, arith, length-append, true, None, Some, inl, refl, sym, ◌∙◌, ap, subst, length, map}
+use Rattle.std.specs.Prelude.{IfErr, IfSome, IsTrue}
 use Rattle.outside.specs.declared.store.DiskName.TheVariants as name
+use Rattle.run_fault.specs.declared.fault.RunFault.TheVariants as fault
 use Rattle.site_store.specs.Plans.{IsAsPlanned, Left}
 use Rattle.site_store.proofs.Planned.{calm_by_plan, each_calm, spared}
 use Rattle.site_run.specs.Making.{IsStart}
-use Rattle.site_run.proofs.Words.{IfErr-weaker, length-map, Mem, mem_right, DiskName, Topology, Store, Setting, IsLogOf, Rose, topology_of, IsAsked, IsSettingOver, MayBeLeft, kept_all, lent_all, topology_lent, as_lent, values_of, other_names, records_of, names_kept, KeepsItsRecord, IsCounted, IsCauseOf, IsOfRun, RunLeft}
+use Rattle.site_run.proofs.Words.{IfErr-weaker, length-map, Mem, mem_right, DiskName, Topology, Store, Setting, IsLogOf, Rose, topology_of, IsAsked, IsSettingOver, MayBeLeft, kept_all, lent_all, topology_lent, as_lent, values_of, other_names, records_of, names_kept, KeepsItsRecord, IsCounted, IsCauseOf, IsOfRun, NamesFailed, RunLeft}
 use Rattle.site_run.proofs.Counting.{rose_before, some_rose}
 use Rattle.site_run.proofs.Holding.{all_tell}
 use Rattle.site_run.proofs.Opened.{as_many, as_many_with, may_same, out_same}
 use Rattle.site_run.proofs.Outing.{each_moved, moved_out, may_moved, may_behind, given_goes_on}
 use Rattle.site_run.proofs.Entering.{records_so, places_so, all_apart, out_so, keeps_so, other_stays, still_sound}
 use Rattle.site_run.proofs.Entered.{run_left, rest_left, rest_earlier, run_sound, none_left, counted_more, last_of, over_back}
-use Rattle.site_run.proofs.Refusing.{on_ok_of, err_both, passed_so, refused_so, cause_so, welcome_so, refusal_counted, refusal_unnamed}
+use Rattle.site_run.proofs.Refusing.{on_ok_of, err_both, passed_so, refused_so, cause_so, named_so, welcome_so, refusal_counted, refusal_unnamed}
 use Rattle.site_run.proofs.Planning.{none_planned, planned_earlier}
 use Rattle.site_run.proofs.run.run_over.Given.{Over}
 use Rattle.site_run.proofs.run.run_over.Goals as goal
@@ -34,6 +35,14 @@ start g c log_tells gg is =
           (subst (λ b. IsLogOf b gg) (sym (o.same log_tells)) first) is.logs;
       records = records;
       places = places_so disks _ _ o.named gg (records_of gg (kept_all {D = g.row.S-Disk.Denot} disks)) records (o.kept.2.places log_tells gg first is.ends);
+    }
+
+pub build-requires-clause-logs : goal.build-requires-clause-logs
+build-requires-clause-logs g c =
+    let rest = c.take_last-read.new.logs.items in
+    record {
+      clicks = ap length c.push_reserved-2.ensures.items ∙ length-append rest (c.open_store.new.clicks ∷ []) ∙ sym (length-append rest (c.take_last-read.result ∷ [])) ∙ sym (ap length c.take_last-read.ensures.items) ∙ c.requires.logs.clicks;
+      queries = c.requires.logs.queries;
     }
 
 pub run_system-requires-clause-places : goal.run_system-requires-clause-places
@@ -106,9 +115,10 @@ returns-clause-over g c tells log_tells gg checked is =
             (λ f from of. cause_so gg before all_kept o.kept.2.limits (o.kept.1.kept tells) built begun.records named c.run_system.new.ran.log logs_rose disks_rose from_there later f (counted_more f logs_rose from_there logs_rose disks_rose (λ rose. rose) later from) of);
         welcome = λ sound. IfErr-weaker c.run_system.result _ _ (λ f of. welcome_so gg built from_there _ c.run_system.new.ran.log f of) whole;
       };
-      left = run_left c.run_system.new.ran.log gg before after were_kept were.1 (λ d' same. run.left tells node_tells gg built d' is.logs.numbers held down same keeps);
+      left = run_left c.run_system.new.ran.log gg before after were_kept all_kept were.1 begun.records (subst (λ k. IfSome c.run_system.new.ran.log (λ l. l.opened ≡ k)) (c.kept_by_all-kept.ensures ∙ ap (λ k. kept_all {D = g.row.S-Disk.Denot} k) c.deref.ensures.value) run.opened) (λ d' same. run.left tells node_tells gg built d' is.logs.numbers held down same keeps);
       rest = rest_earlier gg before before after (λ disk b now. now) c.run_system.result c.run_system.new.ran.log _ _ later
           (rest_left c.run_system.result c.run_system.new.ran.log gg before after were_kept from_there were.1 (λ d' same. run.rest tells node_tells gg built d' is.logs.numbers held c.all_met.ensures down same keeps));
+      named = IfErr-weaker c.run_system.result _ _ (λ f of. named_so gg built from_there c.run_system.new.ran.log f of) whole;
     }
 
 pub returns-in-Err-build-clause-over : goal.returns-in-Err-build-clause-over
@@ -137,8 +147,9 @@ returns-in-Err-build-clause-over g c tells log_tells gg checked is =
         caused = tt;
         welcome = λ sound. tt;
       };
-      left = none_left (λ l. RunLeft gg before after l.air.history) _ c.requires.none;
+      left = none_left (RunLeft gg before after) _ c.requires.none;
       rest = tt;
+      named = none_left (λ l. NamesFailed gg l.air.history fault.Memory) _ c.requires.none;
     }
 
 pub returns-in-Err-clause-over : goal.returns-in-Err-clause-over
@@ -160,8 +171,9 @@ returns-in-Err-clause-over g c tells log_tells gg checked is =
             (λ rose. rose) c.in-Err.fault e.cause;
         welcome = λ sound. e.welcome tells log_tells gg asked is.logs.numbers.replicas first is.ends sound;
       };
-      left = none_left (λ l. RunLeft gg before (g.S.Store.image c.open_store.new.store) l.air.history) _ c.requires.none;
+      left = none_left (RunLeft gg before (g.S.Store.image c.open_store.new.store)) _ c.requires.none;
       rest = tt;
+      named = none_left (λ l. NamesFailed gg l.air.history c.in-Err.fault) _ c.requires.none;
     }
 
 pub returns-in-Err-clause-cause : goal.returns-in-Err-clause-cause

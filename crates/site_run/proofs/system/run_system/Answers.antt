@@ -1,5 +1,5 @@
 use Rattle.std.specs.Prelude.{IsTrue}
-use Rattle.std.proofs.Common.{◌≡◌, ⊎_elim, ℕ, ◌+◌, ◌<◌, List, ◌++◌, ◌∷◌, Some, length, map, sym, ap, ◌∙◌, subst, arith}
+use Rattle.std.proofs.Common.{◌≡◌, ⊎_elim, ℕ, ◌<◌, List, ◌++◌, ◌∷◌, length, map, sym, ap, ◌∙◌, subst, arith}
 use Rattle.site_run.proofs.Words.{length-map, IfErr-weaker, Each, Mem, mem_right, Rose, KeepsPairs, Config, IsOf, Kind, Setting, Disks, count_of, kinds_of, node_count, MayBeLeft, KeepsNotes, made_by, stop_count, as_lent, all_from, AreDownOver, IsRunFrom, IsOfDisks, AreKeptIn, AreUp, lent_replicas, lent_outputs}
 use Rattle.site_run.proofs.Opened.{down_too}
 use Rattle.site_run.proofs.Standing.{have_grown, runs_from}
@@ -104,7 +104,7 @@ returns-in-Ok-clause-rest g c tells node_tells gg d e asked held met down same k
     (subst (λ l. AreKeptIn g.S.Disk.Disk.tells image KeepsNotes (lent_replicas l) outcome.journals.notes.items) whole notes) (subst (λ l. AreKeptIn g.S.Disk.Disk.tells image KeepsPairs (lent_outputs l) outcome.journals.pairs.items) whole pairs) rose
     (no_stops image g.N.SystemNode.places n.grown disks_of held gg c.args.config.now asked numbers e h ws c.in-Ok.left.rest left (c.in-Ok.ensures.count ∙ count) topology kept inside after
     (λ name b here. subst (λ l. MayBeLeft image inside l name b) whole (c.settle.ensures.left tells name b here))
-    g.S.Disk.Disk.faults g.F.Log.LogFile.faults n.faults n.log_faults n.waits g.N.Parting.logs_of met c.none_stops.ensures
+    g.S.Disk.Disk.faults g.F.Log.LogFile.faults n g.N.Parting.logs_of met c.none_stops.ensures
     (λ i b below. c.in-Ok.ensures.met i b (subst (λ k. i < k) c.in-Ok.ensures.count below)) rose
     (λ l among some. c.settle.ensures.disks l (subst (Mem l) (sym whole) among) some)))
 
@@ -119,7 +119,8 @@ returns-in-Ok-clause-cause g c met =
     (λ f told.
     ⊎_elim
     (λ is.
-    fault_told g.S.Disk.Disk.faults g.F.Log.LogFile.faults n.faults n.log_faults disks_of g.N.Parting.logs_of met c.args.config.now logs_rose disks_rose ws c.in-Ok.ensures.caused
+    fault_told g.S.Disk.Disk.faults g.F.Log.LogFile.faults n g.N.SystemNode.places disks_of g.N.Parting.logs_of met c.args.config.now logs_rose disks_rose c.in-Ok.left.air.history ws
+    (λ i b below. c.in-Ok.ensures.met i b (subst (λ k. i < k) c.in-Ok.ensures.count below)) c.in-Ok.ensures.caused
     (λ l among some. c.settle.ensures.disks l (subst (Mem l) (sym c.part_all-parts.ensures.disks) (mem_right l (map as_lent c.push_reserved.new.self.items) (all_from (λ i w. disks_of c.args.config.now i w.0) 0 ws) among)) some)
     (λ l among some. c.settle.ensures.logs l (subst (Mem l) (sym c.part_all-parts.ensures.logs) (mem_right l c.args.parts.logs.items (all_from (λ i w. g.N.Parting.logs_of w.0) 0 ws) among)) some) f (sym c.part_all-parts.ensures.fault ∙ is))
     (λ of. disks_counted g.S.Disk.Disk.tells g.S.Disk.Disk.image (map as_lent c.part_all-parts.result.0.disks.items) logs_rose disks_rose f of.1)
@@ -148,13 +149,13 @@ returns-in-Ok-clause-whole g c tells node_tells gg d asked held met down kept =
     (λ is.
     first_told image g.N.SystemNode.places n.grown disks_of held gg c.args.config.now asked numbers d h ws c.in-Ok.left.rest left (c.in-Ok.ensures.count ∙ count) topology kept inside after
     (λ name b here. subst (λ l. MayBeLeft image inside l name b) whole (c.settle.ensures.left tells name b here))
-    g.S.Disk.Disk.faults g.F.Log.LogFile.faults n.faults n.log_faults n.waits g.N.Parting.logs_of met
+    g.S.Disk.Disk.faults g.F.Log.LogFile.faults n g.N.Parting.logs_of met
     (λ i b below. c.in-Ok.ensures.met i b (subst (λ k. i < k) c.in-Ok.ensures.count below)) rose
-    (λ l among some. c.settle.ensures.disks l (subst (Mem l) (sym whole) among) some) (record { air = c.in-Ok.left.air; seen = c.in-Ok.left.seen }) (λ i. c.in-Ok.left.air.history) f (sym c.part_all-parts.ensures.fault ∙ is))
+    (λ l among some. c.settle.ensures.disks l (subst (Mem l) (sym whole) among) some) (record { air = c.in-Ok.left.air; seen = c.in-Ok.left.seen; opened = c.args.opened }) (λ i. c.in-Ok.left.air.history) c.in-Ok.ensures.caused f (sym c.part_all-parts.ensures.fault ∙ is))
     (λ of.
     read_back_of image g.N.SystemNode.places n.grown disks_of held gg c.args.config.now asked numbers d h ws c.in-Ok.left.rest left (c.in-Ok.ensures.count ∙ count) topology kept inside after
     (λ name b here. subst (λ l. MayBeLeft image inside l name b) whole (c.settle.ensures.left tells name b here))
-    (at_rest c.args.config.now ws c.in-Ok.left.rest c.in-Ok.ensures.fault (sym c.part_all-parts.ensures.fault ∙ of.0)) (Some (record { air = c.in-Ok.left.air; seen = c.in-Ok.left.seen })) rose f g.S.Disk.Disk.tells tells
+    (at_rest c.args.config.now ws c.in-Ok.left.rest c.in-Ok.ensures.fault (sym c.part_all-parts.ensures.fault ∙ of.0)) (record { air = c.in-Ok.left.air; seen = c.in-Ok.left.seen; opened = c.args.opened }) (λ i. c.in-Ok.left.air.history) rose f g.S.Disk.Disk.tells tells
     (subst (λ l. IsOfDisks g.S.Disk.Disk.tells image l rose f) whole of.1))
     told)
     c.settle.ensures.told

@@ -12,5 +12,5 @@ invariant-loop-worker g l =
     × (vec_len l.nodes + length l.worker-iterator.rest.items ≤ vec_capacity l.nodes)
     × (vec_len l.seats ≡ length l.yielded)
     × (l.yielded ++ l.worker-iterator.rest.items ≡ l.fn.workers.items)
-    × AreCaused g.N.SiteNode.faults g.N.SiteNode.log_faults l.nodes.items
+    × AreCaused g.N.SiteNode.disk_faults g.N.SiteNode.log_faults l.nodes.items
     × All (λ (w : WorkerView g.row.N.Denot). HasMet g.N.SiteNode.faults g.N.SiteNode.waits w.node w.fault w.seat.mine) l.yielded

@@ -13,21 +13,21 @@ returns-in-Some-Epoch-clause-plan g c tells =
     let d = g.D.Disk in
     let old = c.args.self.now in
     let new = c.raise.new.self in
-    first_meets d.stops d.made d.faults 4 _ _ old.epochs.journal.disk new.epochs.journal.disk old.log.disk new.log.disk refl (ap (λ log. log.disk) c.raise.ensures.same.2) (c.raise.ensures.plan tells)
+    first_meets d.stops d.made d.faults 4 _ _ old.epochs.journal.disk new.epochs.journal.disk old.log.disk new.log.disk refl (ap (λ log. log.disk) c.raise.ensures.same.0) (c.raise.ensures.plan tells)
 
 pub returns-in-Some-Pair-clause-plan : goal.returns-in-Some-Pair-clause-plan
 returns-in-Some-Pair-clause-plan g c tells =
     let d = g.D.Disk in
     let old = c.args.self.now in
     let new = c.write.new.self in
-    second_meets d.stops d.made d.faults 4 _ _ old.epochs.journal.disk new.epochs.journal.disk old.log.disk new.log.disk refl (ap (λ epochs. epochs.journal.disk) c.write.ensures.same.2) (c.write.ensures.plan tells)
+    second_meets d.stops d.made d.faults 4 _ _ old.epochs.journal.disk new.epochs.journal.disk old.log.disk new.log.disk refl (ap (λ epochs. epochs.journal.disk) c.write.ensures.same) (c.write.ensures.plan tells)
 
 pub returns-in-Some-Pair-clause-holds : goal.returns-in-Some-Pair-clause-holds
 returns-in-Some-Pair-clause-holds g c tells k n is next holds =
     let w = c.write.ensures in
     let it = c.in-Some-Pair in
     let noted : Some (written.Pair it.pair it.payload) ≡ recorded_as n = cc (it.is, it.field-0-is, is) in
-    rw (← w.same.2) at (pair_holds c.write.result k n it.pair it.payload _ _ _ _ _ _ noted holds w.written (w.appended tells k.pairs (kept_of _ _ _ _ k holds)))
+    rw (← w.same) at (pair_holds c.write.result k n it.pair it.payload _ _ _ _ _ _ noted holds w.written (w.appended tells k.pairs (kept_of _ _ _ _ k holds)))
 
 pub returns-in-Some-Pair-clause-pair_moments : goal.returns-in-Some-Pair-clause-pair_moments
 returns-in-Some-Pair-clause-pair_moments g c tells k n is next holds =

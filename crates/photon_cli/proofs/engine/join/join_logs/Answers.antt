@@ -3,7 +3,7 @@ use Rattle.std.proofs.Common.{◌++◌, List, Some, inl, inr, Err, refl, sym, ap
 use Rattle.photon_cli.proofs.Words.{BeginsJoin, Config, HaveIds, IfSome, IsAsked, IsHistory, IsSettingOf, PlanView, Rose, ReportLine, Setting, text_of, TookPrefix, IsLate, TellsPlaces, asked_of, rose_before, counted_more, welcome_where, values_in, IsHeardOf, no_plan}
 use Rattle.photon_cli.proofs.Causing.{log_caused}
 use Rattle.photon_cli.proofs.Overs.{before_all, before_table, on_err, on_fault, on_ok, read_later}
-use Rattle.photon_cli.proofs.Runs.{began, history, if_history, is_asked, joined, joined_afresh, placed_ids, run_setting, setting_of}
+use Rattle.photon_cli.proofs.Runs.{began, history, none_named, if_history, is_asked, joined, joined_afresh, placed_ids, run_setting, setting_of}
 use Rattle.photon_cli.proofs.Statuses.{log_fair, run_past}
 use Rattle.site_run.specs.Heard as site
 use Rattle.photon_cli.proofs.engine.join.join_logs.Given.{Over}
@@ -136,3 +136,19 @@ returns-clause-ends g c disks logs s asked =
     let r = (goal.at.returns-clause-ends g c).After-run_sites in
     let ran = (c.in-Ok-run_sites.ensures.over disks logs s (of_run g r logs s asked)).ends in
     on_err s _ _ _ _ _ _ (read_later s _ _ _ _ _ (rose g r) _ _ ran) _ (tt, ran.passed) tt
+
+pub returns-in-Err-clause-named : goal.returns-in-Err-clause-named
+returns-in-Err-clause-named g c disks logs s asked = inl refl
+
+pub returns-in-Err-checked_logs-clause-named : goal.returns-in-Err-checked_logs-clause-named
+returns-in-Err-checked_logs-clause-named g c disks logs s asked = inl refl
+
+pub returns-in-Err-run_sites-clause-named : goal.returns-in-Err-run_sites-clause-named
+returns-in-Err-run_sites-clause-named g c disks logs s asked =
+    inr (c.in-Err-run_sites.ensures.over disks logs s (of_run g (goal.at.returns-in-Err-run_sites-clause-named g c).After-run_sites logs s asked)).named
+
+pub returns-in_default-clause-named : goal.returns-in_default-clause-named
+returns-in_default-clause-named g c disks logs s asked = inr (none_named c.run_sites.new.ran.log)
+
+pub returns-clause-named : goal.returns-clause-named
+returns-clause-named g c disks logs s asked = inr (none_named c.run_sites.new.ran.log)

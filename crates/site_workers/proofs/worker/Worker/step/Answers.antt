@@ -3,9 +3,9 @@ use Rattle.air_bus.specs.declared.entry.Entry.TheVariants.{Begin, End, Stop}
 use Rattle.air_bus.specs.declared.entry.Phase.TheVariants.{Down}
 use Rattle.air_bus.specs.History.{phase}
 use Rattle.site_node.specs.declared.kind.NodeFault.TheVariants.{Stopped, Disk, Read}
-use Rattle.site_node.specs.Faults.{IsOfTurn, IsOfRestart, IsWhole}
+use Rattle.site_node.specs.Faults.{HasFailed, IsOfTurn, IsOfRestart, IsWhole}
 use Rattle.site_workers.specs.Works.{IsIdle, stop_count}
-use Rattle.site_workers.proofs.Stepping.{Opened, none_of, went_on, went_from, went_looking, went_short, opened, ended, stopped, met_more, eighth, told_same, too_often_told, plan_done, plan_stopped, plan_shut, plan_left, was_met, turn_closed, turn_left}
+use Rattle.site_workers.proofs.Stepping.{Opened, none_of, in_turn, went_on, went_from, went_looking, went_short, opened, ended, stopped, met_more, eighth, told_same, too_often_told, plan_done, plan_stopped, plan_shut, plan_left, was_met, turn_closed, turn_left}
 use Rattle.site_workers.proofs.worker.Worker.step.Given.{Over}
 use Rattle.site_workers.proofs.worker.Worker.step.Goals as goal
 use Rattle.site_workers.proofs.worker.Worker.step.Goals.{After-turn}
@@ -126,11 +126,20 @@ invariant_of-self-inside-in-Ok-restart g c =
         (
           λ is up. absurd (cc up),
           (
-            record { stopped = λ is. faulty; disk = λ disk is. faulty; read = λ is. absurd (too_often_told _ o Read c.too_often-self-inside.ensures (λ e. absurd (cc e)) is) },
+            record {
+              disk = λ disk is. absurd (too_often_told _ o (Disk disk) c.too_often-self-inside.ensures (λ e. absurd (cc e)) is);
+              read = λ is. absurd (too_often_told _ o Read c.too_often-self-inside.ensures (λ e. absurd (cc e)) is);
+            },
             (
               λ up. (omega (arith, next, before.0, same, more), told.1 up),
               (
-                record { up = λ is. c.in-Ok-restart.ensures.up; stops = λ has. faulty; most = omega (arith, next, before.0, before.1, same, more); ended = λ is. let most = told.0 is in omega (arith, most, next, before.0, before.1, same, more) },
+                record {
+                  up = λ is. c.in-Ok-restart.ensures.up;
+                  stops = λ has. faulty;
+                  most = omega (arith, next, before.0, before.1, same, more);
+                  ended = λ is. let most = told.0 is in omega (arith, most, next, before.0, before.1, same, more);
+                  within = λ f is other short. absurd (too_often_told _ o f c.too_often-self-inside.ensures other is);
+                },
                 tt,
               ),
             ),
@@ -156,14 +165,58 @@ invariant_of-self-inside-in-Err-turn g c =
           λ is. absurd (cc is),
           (
             record {
-              stopped = λ is. absurd (other (told_same fault Stopped is));
               disk = λ disk is. absurd (subst IsOfTurn (told_same fault (Disk disk) is) c.in-Err-turn.ensures.kind);
               read = λ is. omega (arith, c.in-Err-turn.ensures.read (ap Err (told_same fault Read is)));
             },
             (
               λ is. absurd (cc is),
               (
-                record { up = λ is. absurd (cc is); stops = begun.0; most = begun.1; ended = λ is. absurd (other (told_same fault Stopped is)) },
+                record {
+                  up = λ is. absurd (cc is);
+                  stops = begun.0;
+                  most = begun.1;
+                  ended = λ is. absurd (other (told_same fault Stopped is));
+                  within = λ f is other short. in_turn self.seat.mine s1.mine (Begin (m.number self.node) c.in-Ok-Some.input) (begins g after).begun.mine refl;
+                },
+                tt,
+              ),
+            ),
+          ),
+        ),
+      ),
+    )
+
+pub invariant_of-self-inside-in-Err-restart : goal.invariant_of-self-inside-in-Err-restart
+invariant_of-self-inside-in-Err-restart g c =
+    let m = g.N.SiteNode in
+    let self = c.self.inside in
+    let after = (goal.at.invariant_of-self-inside-in-Err-restart g c).After-turn in
+    let s1 = c.begin.new.seat in
+    let w = c.restart.new.self in
+    let fault = c.in-Err-restart.fault in
+    let kind = c.in-Err-restart.ensures.kind in
+    let grew : m.faults self.node ≤ m.faults w = omega (arith, c.turn.ensures.count, c.in-Err-restart.ensures.count) in
+    let begun = met_more m.faults m.waits self.node w self.fault self.seat.mine s1.mine (Begin (m.number self.node) c.in-Ok-Some.input) (begins g after).begun.mine refl grew self.met in (
+      c.begin.ensures.kept.1 ∙ self.whose ∙ ap Some (sym (c.restart.ensures.number ∙ c.turn.ensures.number)),
+      (
+        λ is. absurd (cc is),
+        (
+          λ is. absurd (cc is),
+          (
+            record {
+              disk = λ disk is. let failed = subst (HasFailed (m.disk_faults c.turn.new.self) (m.disk_faults w)) (told_same fault (Disk disk) is) c.in-Err-restart.ensures.fault in omega (arith, failed);
+              read = λ is. absurd (subst IsOfRestart (told_same fault Read is) kind);
+            },
+            (
+              λ is. absurd (cc is),
+              (
+                record {
+                  up = λ is. absurd (cc is);
+                  stops = begun.0;
+                  most = begun.1;
+                  ended = λ is. absurd (subst IsOfRestart (told_same fault Stopped is) kind);
+                  within = λ f is other short. in_turn self.seat.mine s1.mine (Begin (m.number self.node) c.in-Ok-Some.input) (begins g after).begun.mine refl;
+                },
                 tt,
               ),
             ),
