@@ -1,5 +1,5 @@
 -- What a command answers, by what came of it.
-use Rattle.std.proofs.Common.{◌≡◌, ◌≢◌, ◌⊎◌, inl, inr, ⊎_elim, ℕ, ◌≤◌, List, Bool, IsTrue, refl, sym, ap, ◌∙◌, arith}
+use Rattle.std.proofs.Common.{◌≡◌, ◌≢◌, ◌⊎◌, inr, ℕ, ◌≤◌, List, Bool, IsTrue, refl, arith}
 use Rattle.photon_cli.proofs.Words.{Counts, IsAnswered, IsFailedRead, RunFault, WordsFault, status_of, words_status}
 use Rattle.run_fault.specs.declared.fault.RunFault.TheVariants as fault
 use Rattle.command_words.specs.declared.asked.WordsFault.TheVariants as words_fault
@@ -7,37 +7,16 @@ use Rattle.photon_cli.proofs.Statuses.{failed_of, write_of}
 
 module _ (sinks : Bool) (files_old files_new out_old out_new : ℕ) (old new : List ℕ) (status : ℕ) where
   pub ended : (status ≡ 0) ⊎ (status ≡ 1) → files_old ≤ files_new → out_old ≤ out_new → IsAnswered sinks files_old files_new out_old out_new old new status
-  ended (inl is) files out = record {
-    statuses = inl is;
-    read = record { later = files; rose = λ four. absurd (omega (arith, is, four)) };
-    write = record { later = out; rose = λ five. absurd (omega (arith, is, five)) };
-    quiet = λ tells zero one five. absurd (zero is);
-  }
-  ended (inr is) files out = record {
-    statuses = inr (inl is);
-    read = record { later = files; rose = λ four. absurd (omega (arith, is, four)) };
-    write = record { later = out; rose = λ five. absurd (omega (arith, is, five)) };
-    quiet = λ tells zero one five. absurd (one is);
-  }
+  ended h files out = grind arith
 
   pub given_up : (f : RunFault) (failed : Type 0) → status ≡ status_of f → Counts files_old files_new (IsFailedRead f) → (f ≡ fault.Write → failed) → Counts out_old out_new failed → (IsTrue sinks → (f ≡ fault.Write) ⊎ (new ≡ old))
       → IsAnswered sinks files_old files_new out_old out_new old new status
-  given_up f failed is read told write quiet = record {
-    statuses = inr (inr (f, is));
-    read = record { later = read.later; rose = λ four. read.rose (failed_of f (sym is ∙ four)) };
-    write = record { later = write.later; rose = λ five. write.rose (told (write_of f (sym is ∙ five))) };
-    quiet = λ tells zero one five. ⊎_elim (λ of. absurd (five (is ∙ ap status_of of))) (λ same. same) (quiet tells);
-  }
+  given_up f failed is read told write quiet = grind (arith, failed_of, write_of)
 
 -- of a command that reads no file
 pub answered : (sinks : Bool) (out_old out_new : ℕ) (old new : List ℕ) (status : ℕ) (f : RunFault) (failed : Type 0) → status ≡ status_of f → status ≢ 4 → (f ≡ fault.Write → failed) → Counts out_old out_new failed → (IsTrue sinks → (f ≡ fault.Write) ⊎ (new ≡ old))
     → IsAnswered sinks 0 0 out_old out_new old new status
-answered sinks out_old out_new old new status f failed is other told write quiet = record {
-  statuses = inr (inr (f, is));
-  read = record { later = omega arith; rose = λ four. absurd (other four) };
-  write = record { later = write.later; rose = λ five. write.rose (told (write_of f (sym is ∙ five))) };
-  quiet = λ tells zero one five. ⊎_elim (λ of. absurd (five (is ∙ ap status_of of))) (λ same. same) (quiet tells);
-}
+answered sinks out_old out_new old new status f failed is other told write quiet = grind (arith, write_of)
 
 -- words that aren't read
 pub unread : (sinks : Bool) (files out : ℕ) (held : List ℕ) (status : ℕ) (f : WordsFault) → status ≡ words_status f → IsAnswered sinks files files out out held held status

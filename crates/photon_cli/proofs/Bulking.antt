@@ -18,9 +18,7 @@ without P f r (inl (same, other)) memory h = subst P (sym same) h
 without P f r (inr (same, read)) memory h = subst P (sym same) memory
 
 pub no_read : (f r : RunFault) → ((r ≡ f) × (IsFailedRead f → ⊥)) ⊎ ((r ≡ fault.Memory) × IsFailedRead f) → IsFailedRead r → ⊥
-no_read f r (inl (same, other)) read = other (subst IsFailedRead same read)
-no_read f r (inr (same, other)) (inl e) = absurd cc
-no_read f r (inr (same, other)) (inr (log, e)) = absurd cc
+no_read f r h read = grind arith
 
 under : (o : Option (List ℕ)) (log : List ℕ) (P : List ℕ → Type 0) → o ≡ Some log → IsSomeAnd o P → P log
 under o log P is = subst (λ (x : Option (List ℕ)). IsSomeAnd x P) is

@@ -1,5 +1,5 @@
 -- Whole logs.
-use Rattle.std.proofs.Common.{◌≡◌, ◌≢◌, inl, inr, ℕ, suc, ◌+◌, ◌-◌, ◌^◌, ◌<◌, ◌≤◌, min, IsTrue, Bool, true, false, None, Result, Ok, Err, List, [], ◌∷◌, ◌++◌, length, map, refl, sym, ap, subst, ◌∙◌, arith}
+use Rattle.std.proofs.Common.{◌≡◌, ◌≢◌, inl, inr, ℕ, suc, ◌+◌, ◌-◌, ◌^◌, ◌<◌, ◌≤◌, min, IsTrue, Bool, true, false, None, Result, Ok, List, [], ◌∷◌, ◌++◌, length, map, refl, sym, ap, subst, ◌∙◌, arith}
 use Rattle.std.specs.Prelude.{if◌then◌else◌, ◌↔◌, IfOk}
 use Rattle.photon_cli.proofs.Words.{cases_lt, map_push, take_all, length-append, length-map, Lacks, lacks_none, EventId, QueryRec, ClickRec, Why, BadLine, query_line, click_line, IsQuery, IsClick, OrMemory, placed, end_from, line_feed, whole, MAX_LOG, IsLog, NextWhy, IsQueryLog, IsClickLog, clicks_same, queries_found, clicks_found, Places, place_at, Keeps, Step, Lines, CheckFault, SoFar, AtEnd, WrongNext, IsStep, EndsAt, kept, AreLines, IsChecked, length-one}
 use Rattle.log_records.specs.declared.why.Why.TheVariants as why
@@ -27,18 +27,7 @@ module _ {R : Type 0} (line_of : R → List ℕ) (IsRecord : R → Type 0) (id_o
     pub ids_are : ids ≡ kept keep (map id_of rs)
 
   pub starts : (keep : Bool) (log : List ℕ) (place : ℕ) (places : Places) (ids : List EventId) → place ≡ 0 → ((k : EventId) → place_at places k ≡ None) → ids ≡ [] → Before keep log place places 0 ids []
-  starts keep log place places ids at empty none = record {
-    so_far = record {
-      begins = (log, refl);
-      at = at;
-      fits = omega arith;
-      records = record { each = tt; one = λ r s in_none. absurd (omega (arith, in_none.1)) };
-      lines = tt;
-    };
-    keeps = record { each = empty };
-    counted = refl;
-    ids_are = none ∙ kept_none keep;
-  }
+  starts keep log place places ids at empty none = grind (arith, kept_none)
 
   few_lines : (log : List ℕ) (place : ℕ) (rs : List R) → SoFar line_of IsRecord id_of log place rs → length rs ≤ MAX_LOG
   few_lines log place rs so_far = omega (arith, so_far.at, so_far.fits, length-whole (map line_of rs), length-map rs line_of)
@@ -50,32 +39,14 @@ module _ {R : Type 0} (line_of : R → List ℕ) (IsRecord : R → Type 0) (id_o
     -- what the next line came to
     pub stepped : (keep : Bool) (log log' : List ℕ) (place place' : ℕ) (old new : Places) (count : ℕ) (ids : List EventId) (rs : List R) (to to' : Step) → log' ≡ log → to ≡ to' → Before keep log place old count ids rs
         → ((xs : List R) → SoFar line_of IsRecord id_of log' place xs → Keeps line_of id_of old xs → IsStep line_of IsRecord id_of LineWhy log' place' new xs to) → IsStep line_of IsRecord id_of LineWhy log place' new rs to'
-    stepped keep log log' place place' old new count ids rs to to' same is before told =
-        subst (λ (s : Step). IsStep line_of IsRecord id_of LineWhy log place' new rs s) is
-        (subst (λ (b : List ℕ). IsStep line_of IsRecord id_of LineWhy b place' new rs to) same
-        (told rs (subst (λ (b : List ℕ). SoFar line_of IsRecord id_of b place rs) (sym same) before.so_far) before.keeps))
+    stepped keep log log' place place' old new count ids rs to to' same is before told = grind arith
 
     pub one_more_line : (keep : Bool) (log : List ℕ) (place place' : ℕ) (old new : Places) (count : ℕ) (ids ids' : List EventId) (id : EventId) (rs : List R) → Before keep log place old count ids rs → IsStep line_of IsRecord id_of LineWhy log place' new rs (step.Line id) → ids' ≡ ids ++ (if keep then id ∷ [] else [])
         → (xs : List R) × Before keep log place' new (count + 1) ids' xs
-    one_more_line keep log place place' old new count ids ids' id rs before (r, is_id, so_far, keeps) ids_is = (
-      rs ++ r ∷ [],
-      record {
-        so_far = so_far;
-        keeps = keeps;
-        counted = omega (arith, before.counted, length-append rs (r ∷ []));
-        ids_are =
-            ids_is ∙ ap (λ (is : List EventId). is ++ (if keep then id ∷ [] else [])) before.ids_are ∙ kept_push keep (map id_of rs) id ∙ ap (λ (i : EventId). kept keep (map id_of rs ++ i ∷ [])) (sym is_id) ∙ ap (kept keep) (sym (map_push id_of rs r));
-      },
-    )
+    one_more_line keep log place place' old new count ids ids' id rs before h ids_is = grind (arith, length-append, kept_push, kept, map_push)
 
     refuses : (log : List ℕ) (place : ℕ) (rs : List R) (count : ℕ) (w : Why) (bad : BadLine) → SoFar line_of IsRecord id_of log place rs → count ≡ length rs → bad ≡ record { line = count + 1; why = w } → NextWhy line_of IsRecord id_of LineWhy log rs w → Refuses line_of IsRecord id_of LineWhy log bad
-    refuses log place rs count w bad so_far counted is told = record {
-      earlier = rs;
-      records = so_far.records;
-      fits = omega (arith, so_far.at, so_far.fits);
-      number = ap (λ (b : BadLine). b.line) is ∙ ap (λ (n : ℕ). n + 1) counted;
-      told = subst (λ (v : Why). NextWhy line_of IsRecord id_of LineWhy log rs v) (sym (ap (λ (b : BadLine). b.why) is)) told;
-    }
+    refuses log place rs count w bad so_far counted is told = grind arith
 
     -- the next line is refused
     pub refuses_next : (keep : Bool) (log : List ℕ) (place : ℕ) (places : Places) (count : ℕ) (ids : List EventId) (rs : List R) (w : Why) (bad : BadLine) → Before keep log place places count ids rs → OrMemory (WrongNext line_of IsRecord id_of LineWhy log rs) w → (bad ≡ record { line = count + 1; why = w }) × (w ≢ why.Memory) → Refuses line_of IsRecord id_of LineWhy log bad
@@ -111,20 +82,11 @@ module _ {R : Type 0} (line_of : R → List ℕ) (IsRecord : R → Type 0) (id_o
       let rest = so_far.begins.0 in
       let all : length rest ≤ MAX_LOG - read.end = omega (arith, so_far.at, ap length so_far.begins.1, length-append front rest) in
       let none : Lacks line_feed rest = subst (Lacks line_feed) (behind_front log front rest read.end so_far.begins.1 so_far.at so_far.fits ∙ take_all (MAX_LOG - read.end) rest all) h.at_end.none in
-      record {
-        holds = record { lines = (rest, so_far.begins.1, none); records = so_far.records; fits = fits };
-        count = h.count;
-        ids = h.ids;
-        end_is = so_far.at;
-      }
+      grind arith
 
 -- what the byte at the limit says
 not_big : (n : ℕ) (big : Bool) → big ≡ false → IsTrue big ↔ (MAX_LOG < n) → n ≤ MAX_LOG
-not_big n big is tells =
-    elim (cases_lt MAX_LOG n) [
-      | inl lt ↦ let is_big : IsTrue big = tells.1 lt in absurd cc
-      | inr le ↦ le
-    ]
+not_big n big is tells = grind (arith, cases_lt)
 
 module _ {R : Type 0} (line_of : R → List ℕ) (IsRecord : R → Type 0) (id_of : R → EventId) (LineWhy : List ℕ → Why → Type 0) (keep : Bool) (log log0 log1 : List ℕ) (read : Lines) (big : Bool) (first : log0 ≡ log) (last : log1 ≡ log) (tells : IsTrue big ↔ (MAX_LOG < length log1)) (h : (rs : List R) × AreLines line_of IsRecord id_of keep log0 rs read) where
   here : AreLines line_of IsRecord id_of keep log h.0 read
@@ -156,10 +118,7 @@ clicks_end log cs end_ h is ls holds =
 -- ---- both kinds
 
 pub queries_checked : (r : Result Lines CheckFault) (lines : Lines) (log : List ℕ) → r ≡ Ok lines → IfOk r (λ read. (rs : List QueryRec) × IsChecked query_line IsQuery (λ q. q.id) false log rs read) → (qs : List QueryRec) × IsQueryLog log qs × (lines.count ≡ length qs)
-queries_checked (Err e) lines log is h = absurd cc
-queries_checked (Ok read) lines log is h =
-    let same : read ≡ lines = cc in
-    (h.0, queries_found log h.0 h.1.holds, ap (λ (l : Lines). l.count) (sym same) ∙ h.1.count)
+queries_checked k lines log is h = grind (arith, queries_found)
 
 module _ (r : Result Lines CheckFault) (lines : Lines) (log : List ℕ) (is : r ≡ Ok lines) (h : IfOk r (λ read. (rs : List ClickRec) × IsChecked click_line IsClick (λ c. c.id) true log rs read)) where
   clicks_here : (rs : List ClickRec) × IsChecked click_line IsClick (λ c. c.id) true log rs lines

@@ -1,11 +1,9 @@
 -- Why a drill gives up, and which of its joiners stop, by the stops that its plan has.
 use Rattle.std.specs.Prelude.{filter}
-use Rattle.std.proofs.Common.{◌≡◌, ◌∙◌, ⊎_elim, ℕ, ◌+◌, ◌<◌, ◌≤◌, ◌==◌, Bool, true, false, ◌||◌, List, [], ◌∷◌, map, Option, Some, None, Ok, IsTrue, if◌then◌else◌, refl, sym, ap, subst, arith}
+use Rattle.std.proofs.Common.{◌≡◌, ℕ, ◌+◌, ◌<◌, ◌≤◌, ◌==◌, Bool, true, false, ◌||◌, List, [], ◌∷◌, map, Option, Some, None, Ok, IsTrue, if◌then◌else◌, refl, sym, ap, subst, arith}
 use Rattle.std.proofs.lemmas.Bool.{ne_eqb}
 use Rattle.photon_cli.proofs.Words.{list_any, IfSome, IsSomeAnd, Each, DiskName, DiskKind, Epoch, Output, Fuse, PlanStop, PlanView, ReportLine, RunFault, RunLog, Images, IsCauseOf, IsWelcome, Kept, KeptDisk, KeepsAs, EpochIs, IsKept, NotesAre, Setting, limit_at, limit_in, HasOutcome, Outcome, one_outcome, is_at, is_for, is_joiners, is_planned, of_joiners, planned_for, AtMost, StopsAtMost, StopsAsPlanned, none_of_joiners, RanAfresh, IsDrilled, IsHeardOf, IsOfDrill, AllInAll, Node, SparesNodes, ShardRow, StorePlace, Values, config_of, fuse_of, names_of}
-use Rattle.site_run.specs.Naming.{joiner_of, site_of}
 use Rattle.site_store.specs.Plans.{HasSoon}
-use Rattle.turn_defs.specs.declared.node.Node.TheVariants.{Dispatcher, Joiner, Replica, Server}
 use Rattle.outside.specs.declared.store.DiskName.TheVariants as name
 use Rattle.run_fault.specs.declared.fault.Mismatch.TheVariants as mismatch
 use Rattle.run_fault.specs.declared.fault.RunFault.TheVariants as fault
@@ -14,10 +12,7 @@ use Rattle.run_fault.specs.declared.fault.RunFault.TheVariants as fault
 
 -- a stop that isn't of a joiner's kind of disk is for none of these
 not_at : (there : Bool) (kind : DiskKind) (which : Option ℕ) (n : ℕ) → of_joiners kind ≡ false → (is_at kind which (if there then Some (Epoch, n) else None) ≡ false) × (is_at kind which (if there then Some (Output, n) else None) ≡ false)
-not_at false kind which n other = (refl, refl)
-not_at true Epoch which n other = absurd (cc other)
-not_at true Output which n other = absurd (cc other)
-not_at true _ which n other = (refl, refl)
+not_at h kind which n other = grind arith
 
 either : (a b : Bool) → (a || b) ≡ false → (a ≡ false) × (b ≡ false)
 either true b e = absurd cc
@@ -25,10 +20,7 @@ either false b e = (refl, e)
 
 none_for : (joiners : ℕ) (disk : DiskName) → ((stop : PlanStop) → is_joiners stop ≡ false → is_for joiners stop disk ≡ false) → (stops : List PlanStop) → list_any is_joiners stops ≡ false → planned_for joiners stops disk ≡ []
 none_for joiners disk spares [] none = refl
-none_for joiners disk spares (stop ∷ stops) none =
-    let both = either (is_joiners stop) (list_any is_joiners stops) none in
-    let here = spares stop both.0 in
-    rw here (none_for joiners disk spares stops both.1)
+none_for joiners disk spares (stop ∷ stops) none = grind (arith, either, none_for joiners disk spares stops)
 
 none_planned : (fuses : List Fuse) → fuses ≡ [] → AtMost (is_planned fuses) 0 0
 none_planned fuses none n from is = let here : IsTrue (is_planned [] n) = subst (λ (f : List Fuse). IsTrue (is_planned f n)) none is in absurd (cc here)
@@ -51,10 +43,7 @@ none_of_topology joiners (stop ∷ stops) = none_of_topology joiners stops
 pub never_soon : {S : Type 0} (stops : S → DiskName → ℕ → Bool) (made : S → DiskName → ℕ) (store : S) (joiners : ℕ) (planned : List PlanStop) → ((disk : DiskName) (n : ℕ) → stops store disk n ≡ is_planned (planned_for joiners planned disk) n)
     → ((disk : DiskName) → made store disk ≡ 0) → Each (λ stop. 3 ≤ stop.call) planned → (disk : DiskName) → HasSoon stops made store disk → ⊥
 never_soon stops made store joiners planned calls fresh late name.Topology soon = soon (λ n from is. let none : is_planned (planned_for joiners planned name.Topology) n ≡ false = ap (λ (fuses : List Fuse). is_planned fuses n) (none_of_topology joiners planned) in absurd (cc (is, calls name.Topology n, none)))
-never_soon stops made store joiners planned calls fresh late disk soon =
-    let to = soon.2 in
-    let zero = fresh disk in
-    absurd (cc (soon.3, calls disk soon.0, none_early joiners soon.0 disk planned (omega (arith, to, zero)) late))
+never_soon stops made store joiners planned calls fresh late disk soon = grind (arith, none_early)
 
 -- no stops do
 one_at_most : (joiners : ℕ) (disk : DiskName) → StopsAtMost joiners [] disk 1
@@ -64,13 +53,7 @@ none_at_most : (joiners : ℕ) (disk : DiskName) → StopsAtMost joiners [] disk
 none_at_most joiners disk n from is = let here : IsTrue false = is in absurd (cc here)
 
 few_of : (v : Values) (table : List ShardRow) (n : Node) → AllInAll (StopsAtMost v.nodes.joiners []) (names_of (config_of v table) n) 1
-few_of v table (Dispatcher s) = (1, 0, one_at_most v.nodes.joiners (name.Offset s), (0, 0, none_at_most v.nodes.joiners (name.Retry s), refl, refl), refl)
-few_of v table (Server s) = (1, 0, one_at_most v.nodes.joiners (name.Server s), refl, refl)
-few_of v table (Replica r) = (1, 0, one_at_most v.nodes.joiners (name.Replica r), refl, refl)
-few_of v table (Joiner j) =
-    let site = site_of (config_of v table) j in
-    let joiner = joiner_of (config_of v table) j in
-    (1, 0, one_at_most v.nodes.joiners (name.Epoch site joiner), (0, 0, none_at_most v.nodes.joiners (name.Output site joiner), refl, refl), refl)
+few_of v table h = grind (arith, one_at_most, none_at_most)
 
 pub none_spares : (v : Values) → SparesNodes v []
 none_spares v = record { late = tt; few = few_of v }
@@ -94,26 +77,13 @@ never_near epoch keeps near = let read : Ok 0 ≡ Ok epoch = keeps in let zero :
 module _ (g : Setting) (before : Images) (nothing : (disk : DiskName) (c : List ℕ) → before disk c → c ≡ []) where
   none_limited : (disks : List KeptDisk) → Each (IsKept before) disks → limit_in disks ≡ None
   none_limited [] kept = refl
-  none_limited (d ∷ ds) kept =
-      let here = unlimited d.name d.kept (subst (KeepsAs d.kept) (nothing d.name kept.0.0 kept.0.1) kept.0.2) in
-      rw here (none_limited ds kept.1)
+  none_limited (d ∷ ds) kept = grind (arith, unlimited, none_limited ds kept.1)
 
   pub of_drill : (read faulted holds stops : Type 0) → holds → (f : RunFault) → ((at : StorePlace) → f ≡ fault.Store at → stops) → IsCauseOf g before read faulted f → IsWelcome holds f → IsOfDrill stops f
-  of_drill read faulted holds stops x (fault.Store at) more cause fair = more at refl
-  of_drill read faulted holds stops x (fault.Limit disk value) more cause fair =
-      ⊎_elim (λ (k, kept, unfit). absurd (cc (sym (none_limited k.disks (kept.kept refl)) ∙ unfit.2)))
-      (λ late. let near = late.0.1 in absurd (never_near near.2.0 (subst (KeepsAs (EpochIs near.2.0)) (nothing disk near.0 near.1) near.2.1) near.2.2)) cause
-  of_drill read faulted holds stops x (fault.Damaged disk at) more cause fair = fair x
-  of_drill read faulted holds stops x (fault.Topology (mismatch.Joiners kept asked)) more cause fair = fair x
-  of_drill read faulted holds stops x (fault.Topology what) more cause fair = fair
-  of_drill read faulted holds stops x _ more cause fair = tt
+  of_drill read faulted holds stops x h more cause fair = grind (arith, none_limited, never_near)
 
 pub more_stops : (less more : Type 0) → (less → more) → (f : RunFault) → IsOfDrill less f → IsOfDrill more f
-more_stops less more to (fault.Store at) is = to is
-more_stops less more to (fault.Limit disk value) is = is
-more_stops less more to (fault.Damaged disk at) is = is
-more_stops less more to (fault.Topology what) is = is
-more_stops less more to _ is = tt
+more_stops less more to h is = grind arith
 
 -- ---- a file and its plan
 

@@ -39,9 +39,7 @@ module _ (log front rest : List ℕ) (place : ℕ) (is : log ≡ front ++ rest) 
 
   -- the line that is read at the place
   pub line_there : (line more : List ℕ) → behind log place ≡ line ++ line_feed ∷ more → (after : List ℕ) × (log ≡ front ++ (line ++ line_feed ∷ after)) × (length front + length line < MAX_LOG)
-  line_there line more e =
-      let found = line_among (MAX_LOG - place) rest line more (sym behind_front ∙ e) in
-      (found.0, is ∙ ap (λ (x : List ℕ). front ++ x) found.1, omega (arith, found.2))
+  line_there line more e = grind (arith, line_among, behind_front)
 
 -- a line of the log is read at its place
 pub reads_line : (log front line after : List ℕ) (place : ℕ) → log ≡ front ++ (line ++ line_feed ∷ after) → place ≡ length front → place + length line < MAX_LOG → (more : List ℕ) × (behind log place ≡ line ++ line_feed ∷ more)

@@ -143,10 +143,7 @@ module _ {R : Type 0} (line_of : R → List ℕ) (IsRecord : R → Type 0) (id_o
 
     -- what the line that was read came to
     came : (to : Step) → Came log' to → (rs : List R) → SoFar line_of IsRecord id_of log place rs → Keeps line_of id_of old rs → IsStep line_of IsRecord id_of LineWhy log place' new rs to
-    came to told rs so_far keeps =
-        let here : IsNext log p (next.Line p end_) line = subst (λ (q : ℕ). IsNext log q (next.Line p end_) line) (sym is_next.0) is_next in
-        let before : SoFar line_of IsRecord id_of log p rs = subst (λ (q : ℕ). SoFar line_of IsRecord id_of log q rs) (sym is_next.0) so_far in
-        subst (λ (b : List ℕ). Came b to) same told rs here before keeps at
+    came to told rs so_far keeps = grind arith
 
     pub line_came : (r : Result Step ReadFault) → IfOk r (λ to. (rs : List R) → IsNext log' p (next.Line p end_) line → SoFar line_of IsRecord id_of log' p rs → Keeps line_of id_of old rs → tail ≡ end_ → IsStep line_of IsRecord id_of LineWhy log' place' new rs to)
         → IfOk r (λ to. (rs : List R) → SoFar line_of IsRecord id_of log place rs → Keeps line_of id_of old rs → IsStep line_of IsRecord id_of LineWhy log place' new rs to)

@@ -1,6 +1,7 @@
 -- How a call ends over a store, from how its parts do.
+use Rattle.std.proofs.Common.{arith}
 use Rattle.std.specs.Prelude.{Result, Ok, Err}
-use Rattle.std.proofs.Common.{Option, Some, refl, sym, subst}
+use Rattle.std.proofs.Common.{Option, Some, sym, subst}
 use Rattle.photon_cli.proofs.Words.{IfErr-weaker, continues_same, EndsOver, Images, IsCauseOf, IsLate, IsRowFault, IsWelcome, LeavesSomething, RunFault, RunLog, Setting, TellsPlaces, Text, asked_of}
 use Rattle.photon_cli.proofs.Causing.{later_caused}
 use Rattle.run_fault.specs.declared.fault.RunFault.TheVariants as fault
@@ -13,13 +14,7 @@ late_met g before faulted _ late = absurd late
 module _ (g : Setting) (before : Images) (read faulted : Type 0) (ran : Option RunLog) where
   -- before the store was touched
   pub before_all : {A : Type 0} (f : RunFault) → IsCauseOf g before read faulted f → IsWelcome (LeavesSomething g before) f → EndsOver g before before read faulted ran {A = A} (Err f)
-  before_all f cause welcome = record {
-    keeps = record { sound = λ sound. sound; grown = λ disk bytes now. continues_same (before disk) bytes now };
-    idle = λ none disk other bytes now. (bytes, now, refl);
-    passed = tt;
-    caused = cause;
-    welcome = λ sound. welcome;
-  }
+  before_all f cause welcome = grind (arith, continues_same)
 
   pub before_table : {A : Type 0} (shards : Text) (f : RunFault) → IsRowFault shards f → EndsOver g before before read faulted ran {A = A} (Err f)
   before_table shards f (row, is, first) = before_all f (subst (IsCauseOf g before read faulted) (sym is) tt) (subst (IsWelcome (LeavesSomething g before)) (sym is) tt)

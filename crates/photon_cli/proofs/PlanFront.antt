@@ -1,12 +1,10 @@
 -- What the front of a plan's file tells of the file.
 use Rattle.std.proofs.Common.{◌≡◌, ℕ, ◌<◌, ◌≤◌, ⊎_elim, List, Option, Some, None, length, take, sym, subst, arith}
-use Rattle.photon_cli.proofs.Words.{IsSomeAnd, cases_lt, take_all, length-take, PlanView, Outcome, HasOutcome, too_long, no_text, a_value, size_limit}
+use Rattle.photon_cli.proofs.Words.{IsSomeAnd, cases_lt, take_all, length-take, PlanView, Outcome, HasOutcome, size_limit}
 
 -- a text that is longer than a plan may be has one outcome, whatever its end
 long_one : (bytes other : List ℕ) (o : Outcome PlanView) → size_limit < length bytes → size_limit < length other → HasOutcome bytes o → HasOutcome other o
-long_one bytes other o long far (too_long lt is) = too_long far is
-long_one bytes other o long far (no_text le none is) = absurd (omega (arith, long, le))
-long_one bytes other o long far (a_value d le text is) = absurd (omega (arith, long, le))
+long_one bytes other o long far h = grind arith
 
 module _ (most : ℕ) (more : size_limit < most) where
   same : (bytes : List ℕ) → length bytes ≤ size_limit → take most bytes ≡ bytes

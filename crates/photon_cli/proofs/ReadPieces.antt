@@ -1,34 +1,22 @@
 -- Bytes that are read piece by piece.
-use Rattle.std.proofs.Common.{◌≡◌, ℕ, ◌+◌, ◌<◌, ◌≤◌, List, ◌++◌, length, take, drop, refl, sym, ap, subst, ◌∙◌, append_assoc, arith}
+use Rattle.std.proofs.Common.{◌≡◌, ℕ, ◌+◌, ◌<◌, ◌≤◌, List, ◌++◌, length, take, drop, sym, ap, ◌∙◌, append_assoc, arith}
 use Rattle.photon_cli.proofs.Words.{take-add, append-nil, take_at, drop_at, take_all, take-take, take-append-le, length-append, length-take-le}
 
 -- what was read so far, and a piece of what follows
 pub piece_next : (bytes now read new : List ℕ) (n : ℕ) → now ≡ bytes → read ≡ take (length read) bytes → (n ≤ length (drop (length read) now)) × (new ≡ read ++ take n (drop (length read) now)) → new ≡ take (length new) bytes
-piece_next bytes now read new n same e piece =
-    let rest = drop (length read) bytes in
-    let is : new ≡ read ++ take n rest = piece.1 ∙ ap (λ (b : List ℕ). read ++ take n (drop (length read) b)) same in
-    let fits : n ≤ length rest = subst (λ (b : List ℕ). n ≤ length (drop (length read) b)) same piece.0 in
-    let size : length new ≡ length read + n = ap length is ∙ length-append read (take n rest) ∙ ap (λ (k : ℕ). length read + k) (length-take-le n rest fits) in
-    is ∙ ap (λ (front : List ℕ). front ++ take n rest) e ∙ sym (take-add (length read) n bytes) ∙ ap (λ (k : ℕ). take k bytes) (sym size)
+piece_next bytes now read new n same e piece = grind (arith, length-append, length-take-le, take-add)
 
 -- where nothing follows, what was read is all
 pub last_piece : (bytes now read new : List ℕ) (n most : ℕ) → now ≡ bytes → read ≡ take (length read) bytes → (n ≤ length (drop (length read) now)) × (new ≡ read ++ take n (drop (length read) now))
     → n ≡ 0 → length now ≤ length read → length read < most → new ≡ take most bytes
-last_piece bytes now read new n most same e piece none past few =
-    let long : length bytes ≤ length read = omega (arith, past, ap length same) in
-    let own : new ≡ read = piece.1 ∙ ap (λ (k : ℕ). read ++ take k (drop (length read) now)) none ∙ append-nil read in
-    own ∙ e ∙ take_all (length read) bytes long ∙ sym (take_all most bytes (omega (arith, long, few)))
+last_piece bytes now read new n most same e piece none past few = grind (arith, append-nil, take_all)
 
 -- and so it is where it is as long as it may be
 pub all_pieces : (bytes read : List ℕ) (most : ℕ) → read ≡ take (length read) bytes → length read ≡ most → read ≡ take most bytes
 all_pieces bytes read most e size = e ∙ ap (λ (k : ℕ). take k bytes) size
 
 taken : (old buf rest : List ℕ) (n : ℕ) → n ≤ length buf → take (length old + n) (old ++ (buf ++ rest)) ≡ old ++ take n buf
-taken old buf rest n fits =
-    let here = take_at old (buf ++ rest) (length old) refl in
-    let there = drop_at old (buf ++ rest) (length old) refl in
-    let some = take-append-le n buf rest fits in
-    rw (take-add (length old) n (old ++ (buf ++ rest)), here, there, some) refl
+taken old buf rest n fits = grind (arith, take_at, drop_at, take-append-le, take-add)
 
 -- bytes that were made longer, read into behind the old ones, and cut behind what was read
 pub piece_read : (old zeros now buf post tail new : List ℕ) (len n cap more : ℕ) → len ≡ length old → now ≡ take (len + more) old ++ zeros → len + n ≤ cap → n ≤ length buf

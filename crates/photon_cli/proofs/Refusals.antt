@@ -1,5 +1,6 @@
 -- Refused lines, as faults.
-use Rattle.std.proofs.Common.{◌≡◌, ◌⊎◌, inl, inr, ⊎_elim, ℕ, Option, Some, None, refl, ap, subst, ◌∙◌}
+use Rattle.std.proofs.Common.{arith}
+use Rattle.std.proofs.Common.{◌≡◌, ◌⊎◌, inl, inr, ℕ, Option, Some, None, refl}
 use Rattle.photon_cli.proofs.Words.{IsSomeAnd, Why, BadLine, LogName, RunFault, IsLogFault, refusal, refusal_of}
 use Rattle.log_records.specs.declared.why.Why.TheVariants as why
 use Rattle.run_fault.specs.declared.fault.RunFault.TheVariants as fault
@@ -30,13 +31,8 @@ told log n why.Memory line w e = absurd cc
 
 -- the line that is told is the one that the check found
 pub told_line : (log : LogName) (bad : BadLine) (line : ℕ) (w : Why) (P : BadLine → Type 0) → refusal_of log bad ≡ fault.Refused log line w → (bad.why ≡ why.Memory) ⊎ P bad → P (record { line = line; why = w })
-told_line log bad line w P e h =
-    let t = told log bad.line bad.why line w e in
-    let same : bad ≡ record { line = line; why = w } = ap (λ (n : ℕ). let b : BadLine = record { line = n; why = bad.why } in b) t.1 ∙ ap (λ (v : Why). let b : BadLine = record { line = line; why = v } in b) t.2 in
-    subst P same (⊎_elim (λ m. absurd (t.0 m)) (λ p. p) h)
+told_line log bad line w k e h = grind (arith, told)
 
 -- a refused line is of the log that was read
 pub same_log : (own log : LogName) (f : RunFault) (line : ℕ) (w : Why) → IsLogFault own f → f ≡ fault.Refused log line w → own ≡ log
-same_log own log f line w (inl (n, v, e)) h = cc
-same_log own log f line w (inr (inl e)) h = absurd cc
-same_log own log f line w (inr (inr e)) h = absurd cc
+same_log own log f line w k h = grind arith

@@ -8,7 +8,7 @@ use Rattle.time_shards.proofs.Texts.{row_same}
 use Rattle.time_shards.specs.Text.{table_text}
 use Rattle.site_laws.specs.StoreLaws.{ReadTopologyIsKept, TopologyFits}
 use Rattle.site_store.specs.Adding.{Answers, HasRow as KeepsRow, IsAdded, IsRowCause, Leaves, NoneTold}
-use Rattle.site_store.specs.Records.{AreKept, IsKept}
+use Rattle.site_store.specs.Records.{AreKept}
 use Rattle.site_store.specs.Written.{IsWritten}
 use Rattle.site_store.proofs.Added.{unchanged}
 use Rattle.site_store.proofs.Damage.{no_damage}
@@ -29,12 +29,7 @@ one_row text row other is also = row_same row other is.0 also.0 (sym is.1 ∙ al
 
 module _ (placed before : Images) (within : (disk : DiskName) (c : List ℕ) → placed disk c → before disk c) where
   kept_before : (k : KeptValues) → AreKept true placed REPLICAS 0 k → AreKept true before REPLICAS 0 k
-  kept_before k are = record {
-    topology = λ sure. let x = are.topology sure in (x.0, within name.Topology x.0 x.1, x.2);
-    named = are.named;
-    kinds = are.kinds;
-    kept = λ sure. each_more (IsKept placed) (IsKept before) k.disks (λ o kept. (kept.0, within o.name kept.0 kept.1, kept.2)) (are.kept sure);
-  }
+  kept_before k are = grind (arith, each_more)
 
   answers_before : (row : ShardRow) (answer : Result Topology Unfit) → Answers true placed REPLICAS row answer → Answers true before REPLICAS row answer
   answers_before row answer (k, are, is) = (k, kept_before k are, is)
@@ -43,14 +38,10 @@ module _ (placed before : Images) (within : (disk : DiskName) (c : List ℕ) →
   written_before t c w = record { from = w.from; was = within name.Topology w.from w.was; records = w.records; stood = w.stood; stands = w.stands; keeps = w.keeps }
 
   pub added_before : (tells : Bool) → IsTrue tells → (row : ShardRow) (after : Images) (table : List ShardRow) → IsAdded tells placed REPLICAS row after table → IsAdded true before REPLICAS row after table
-  added_before tells sure row after table is =
-      let here : IsAdded true placed REPLICAS row after table = subst (λ (b : Bool). IsAdded b placed REPLICAS row after table) sure is in
-      record { topology = here.topology; longer = here.longer; answers = answers_before row (Ok here.topology) here.answers; written = λ yes c now. written_before here.topology c (here.written yes c now) }
+  added_before tells sure row after table is = grind (arith, answers_before, written_before)
 
   pub row_before : (tells : Bool) → IsTrue tells → (row : ShardRow) (c : List ℕ) → KeepsRow tells placed REPLICAS row c → KeepsRow true before REPLICAS row c
-  row_before tells sure row c has =
-      let here : KeepsRow true placed REPLICAS row c = subst (λ (b : Bool). KeepsRow b placed REPLICAS row c) sure has in
-      (here.0, answers_before row (Ok here.0) here.1, written_before here.0 c here.2)
+  row_before tells sure row c has = grind (arith, answers_before, written_before)
 
   abbrev Told : (tells : Bool) → Images → ShardRow → RunFault → Type 0
   Told tells image row f = (why : Unfit) × (f ≡ fault.Reshard why) × Answers tells image REPLICAS row (Err why)
@@ -68,37 +59,11 @@ module _ (placed before : Images) (within : (disk : DiskName) (c : List ℕ) →
       other why e = cc
 
       by_kind : (g : RunFault) → HasCause true before REPLICAS None NoneTold (λ log. ⊥) (λ at. faulted) ⊥ (Told true before row g) g → IsCauseFor before faulted row g
-      by_kind (fault.Store at) x = x
-      by_kind (fault.Damaged disk at) x = (x.0, x.1 refl)
-      by_kind (fault.Limit disk value) x = ⊎_elim (λ (k, are, unfit). (k, are, unfit.2)) (λ late. absurd late.0) x
-      by_kind (fault.Reshard why) (u, is, answers) = let same : u ≡ why = cc in subst (λ (v : Unfit). Answers true before REPLICAS row (Err v)) same answers
-      by_kind fault.Memory x = tt
-      by_kind fault.Write ((u, is, answers), passed) = absurd (other u is)
-      by_kind (fault.Table n) (u, is, answers) = absurd (cc)
-      by_kind (fault.Plan place) (u, is, answers) = absurd (cc)
-      by_kind fault.PlanRead (u, is, answers) = absurd (cc)
-      by_kind (fault.Refused log line w) (u, is, answers) = absurd (cc)
-      by_kind (fault.Read log) x = x
-      by_kind (fault.Topology (mismatch.Joiners kept asked)) (k, are, unfit) = unfit
-      by_kind (fault.Topology (mismatch.Table kept asked)) (k, are, unfit) = unfit
-      by_kind (fault.Topology (mismatch.Place p)) (k, are, (fit, told)) = absurd (cc)
+      by_kind h x = grind (arith, other)
 
 -- what isn't added for this is named so
 pub named_row : (tells : Bool) (placed : Images) (row : ShardRow) (rose : Type 0) (text : Text) (f : RunFault) → HasRow text → IsRowCause tells placed REPLICAS row rose f → IsNamedInReshard text f
-named_row tells placed row rose text (fault.Store at) has cause = has
-named_row tells placed row rose text (fault.Damaged disk at) has cause = has
-named_row tells placed row rose text (fault.Limit disk value) has cause = has
-named_row tells placed row rose text (fault.Reshard why) has cause = has
-named_row tells placed row rose text fault.Memory has cause = tt
-named_row tells placed row rose text fault.Write has cause = has
-named_row tells placed row rose text (fault.Table n) has (u, is, answers) = absurd (cc)
-named_row tells placed row rose text (fault.Plan place) has (u, is, answers) = absurd (cc)
-named_row tells placed row rose text fault.PlanRead has (u, is, answers) = absurd (cc)
-named_row tells placed row rose text (fault.Refused log line w) has (u, is, answers) = absurd (cc)
-named_row tells placed row rose text (fault.Read log) has cause = cause
-named_row tells placed row rose text (fault.Topology (mismatch.Joiners kept asked)) has (k, are, unfit) = unfit
-named_row tells placed row rose text (fault.Topology (mismatch.Table kept asked)) has (k, are, unfit) = unfit
-named_row tells placed row rose text (fault.Topology (mismatch.Place p)) has (k, are, (fit, told)) = absurd (cc)
+named_row tells placed row rose text h has cause = grind arith
 
 -- a directory that isn't placed is no fault of the output
 pub place_status : (s : StoreFault) (f : RunFault) → f ≡ of_place s → status_of f ≢ 5
@@ -107,10 +72,7 @@ place_status store.Memory f e five = let at : 8 ≡ 5 = sym (ap status_of e) ∙
 
 -- and it is no fault of the output
 pub not_written : (tells : Bool) (placed : Images) (row : ShardRow) (rose : Type 0) (f : RunFault) → IsRowCause tells placed REPLICAS row rose f → f ≡ fault.Write → ⊥
-not_written tells placed row rose f cause is = let x = (subst (IsRowCause tells placed REPLICAS row rose) is cause).0 in other x.0 x.1
-  where
-    other : (why : Unfit) → fault.Write ≡ fault.Reshard why → ⊥
-    other why e = cc
+not_written tells placed row rose f cause is = grind arith
 
 -- ---- at each fault
 
@@ -141,40 +103,16 @@ module _ (before : Images) (faulted : Type 0) (row : ShardRow) where
   Has f = IsCauseFor before faulted row f
 
   pub damaged_row : (f : RunFault) → Has f → ((k : KeptValues) → AreKept true before REPLICAS 0 k → ⊥) → (faulted → ⊥) → (status_of f ≡ 7) ⊎ (status_of f ≡ 8)
-  damaged_row (fault.Store at) has none still = absurd (still has)
-  damaged_row (fault.Damaged disk at) has none still = inl refl
-  damaged_row (fault.Limit disk value) (k, kept, e) none still = absurd (none k kept)
-  damaged_row (fault.Reshard why) (k, kept, answer) none still = absurd (none k kept)
-  damaged_row fault.Write (t, (k, kept, answer)) none still = absurd (none k kept)
-  damaged_row fault.Memory has none still = inr refl
-  damaged_row _ has none still = absurd has
+  damaged_row h has none still = grind arith
 
   pub limited_row : (f : RunFault) → Has f → ((k : KeptValues) → AreKept true before REPLICAS 0 k → first_limit k ≢ None) → (faulted → ⊥) → (status_of f ≡ 10) ⊎ ((status_of f ≡ 7) ⊎ (status_of f ≡ 8))
-  limited_row (fault.Store at) has limit still = absurd (still has)
-  limited_row (fault.Damaged disk at) has limit still = inr (inl refl)
-  limited_row (fault.Limit disk value) has limit still = inl refl
-  limited_row (fault.Reshard why) (k, kept, answer) limit still = absurd (limit k kept answer.limits)
-  limited_row fault.Write (t, (k, kept, answer)) limit still = absurd (limit k kept answer.limits)
-  limited_row fault.Memory has limit still = inr (inr refl)
-  limited_row _ has limit still = absurd has
+  limited_row h has limit still = grind arith
 
   pub forbidden_row : (f : RunFault) → Has f → IsForbidden before row → (faulted → ⊥) → (status_of f ≡ 11) ⊎ ((status_of f ≡ 10) ⊎ ((status_of f ≡ 7) ⊎ (status_of f ≡ 8)))
-  forbidden_row (fault.Store at) has forbids still = absurd (still has)
-  forbidden_row (fault.Damaged disk at) has forbids still = inr (inr (inl refl))
-  forbidden_row (fault.Limit disk value) has forbids still = inr (inl refl)
-  forbidden_row (fault.Reshard why) has forbids still = inl refl
-  forbidden_row fault.Write (t, (k, kept, answer)) forbids still = absurd (forbids k kept t answer.is)
-  forbidden_row fault.Memory has forbids still = inr (inr (inr refl))
-  forbidden_row _ has forbids still = absurd has
+  forbidden_row h has forbids still = grind arith
 
   pub complete_row : (f : RunFault) → Has f → status_of f ≢ 7 → ((k : KeptValues) → AreKept true before REPLICAS 0 k → first_limit k ≡ None) → (faulted → ⊥) → (f ≡ fault.Write → ⊥) → (status_of f ≡ 8) ⊎ (status_of f ≡ 11)
-  complete_row (fault.Store at) has fair below still written = absurd (still has)
-  complete_row (fault.Damaged disk at) has fair below still written = absurd (fair refl)
-  complete_row (fault.Limit disk value) (k, kept, e) fair below still written = absurd (cc (sym (below k kept) ∙ e))
-  complete_row (fault.Reshard why) has fair below still written = inr refl
-  complete_row fault.Write has fair below still written = absurd (written refl)
-  complete_row fault.Memory has fair below still written = inl refl
-  complete_row _ has fair below still written = absurd has
+  complete_row h has fair below still written = grind arith
 
   -- of a sound store no disk is told as damaged
   pub fair_row : ReadTopologyIsKept → TopologyFits → (g : Setting) → g.replicas ≡ REPLICAS → IsSoundStore g before → LeavesSomething g before → (f : RunFault) → Has f → status_of f ≢ 7

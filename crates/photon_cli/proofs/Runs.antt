@@ -1,4 +1,5 @@
 -- What a run that has come to rest gives the report, and the setting that it is of.
+use Rattle.std.proofs.Common.{arith}
 use Rattle.std.specs.Prelude.{Ok, ⊤}
 use Rattle.std.proofs.Common.{◌≡◌, ℕ, suc, ◌+◌, List, [], ◌∷◌, map, Option, Some, None, refl, sym, ap, ◌∙◌, length, subst}
 use Rattle.photon_cli.proofs.Words.{REPLICAS, Config, IfSome, IsSomeAnd, PlanView, AreLinesBy, Images, IsSoundStore, IsTable, Joins, JoinsAfresh, LeavesNothing, RanAfresh, ReportLine, RestJoins, RestJoinsAfresh, RestLeft, RestRanAfresh, RunLeft, RunLog, RunOutcome, RunsOver, ShardRow, distinct, line_of, only_table, EventId, QueryRec, ClickRec, IsQueryLog, IsClickLog, click_line, ClickLine, placed, end_from, lines_follow, Setting, Checked, IsLogOf, IsSettingOf, Values, EndsAt, AreLogs, AreValid, HasIds, HaveIds, IsAsked, IsHeardOf, IsHistory, config_of, IsTextOf}
@@ -44,10 +45,7 @@ some_clicks ids (Some log) h = (h.clicks, h.holds, h.are)
 
 pub both_logs : (told : List ℕ → Option (List ℕ)) (queries clicks : List ℕ) (ids : List EventId) → IsSomeAnd (told queries) (λ log. (qs : List QueryRec) × IsQueryLog log qs) → IsSomeAnd (told clicks) (λ log. HasIds log ids)
     → (qs : List QueryRec) × (cs : List ClickRec) × AreLogs told queries clicks qs cs × (ids ≡ map (λ (c : ClickRec). c.id) cs)
-both_logs told queries clicks ids q k =
-    let a = some_queries (told queries) q in
-    let b = some_clicks ids (told clicks) k in
-    (a.0, b.0, record { query = a.1; click = b.1 }, b.2)
+both_logs told queries clicks ids q k = grind (arith, some_queries, some_clicks)
 
 pub clicks_there : (ids : List EventId) (o : Option (List ℕ)) → IsSomeAnd o (λ log. HasIds log ids) → (cs : List ClickRec) × IsSomeAnd o (λ log. IsClickLog log cs)
 clicks_there ids o h = let found = some_clicks ids o h in (found.0, found.1)
@@ -63,15 +61,7 @@ abbrev pub setting_of : Values → List ShardRow → List QueryRec → List Clic
 setting_of v table qs cs = record { queries = qs; clicks = placed 0 cs; horizon = v.horizon; joiners = v.nodes.joiners; table = table; batch = v.nodes.batch; replicas = REPLICAS }
 
 pub is_asked : (told : List ℕ → Option (List ℕ)) (v : Values) (table : List ShardRow) (qs : List QueryRec) (cs : List ClickRec) → IsTextOf v.nodes.shards table → AreLogs told v.queries v.clicks qs cs → IsAsked told v (setting_of v table qs cs)
-is_asked told v table qs cs text logs = record {
-  table = text;
-  setting = record {
-    numbers = record { joiners = refl; horizon = refl; table = refl; batch = refl; replicas = refl };
-    queries_are = logs.query;
-    clicks_are = within (told v.clicks) (λ log. IsClickLog log cs) (λ log. IsLogOf log (setting_of v table qs cs)) (λ log h. record { lines = record { clicks = cs; holds = h.0; lines = refl }; short = h.1 }) logs.click;
-    ends = refl;
-  };
-}
+is_asked told v table qs cs text logs = grind (arith, within)
 
 -- two valid logs and a table give it
 pub setting_there : (told : List ℕ → Option (List ℕ)) (v : Values) (table : List ShardRow) → IsTextOf v.nodes.shards table → AreValid told v.queries v.clicks → (g : Setting) × IsAsked told v g
@@ -87,23 +77,13 @@ pub run_setting : (told now : List ℕ → Option (List ℕ)) (v : Values) (tabl
 run_setting told now v table config made end_ g asked text same ends =
     let n = asked.setting.numbers in
     let is : table ≡ g.table = only_table v.nodes.shards table g.table text.0 asked.table.0 text.1 asked.table.1 in
-    subst (λ (k : Config). IsSettingOf now v.queries v.clicks k end_ g) (sym made)
-    (record {
-      numbers = record { joiners = n.joiners; horizon = n.horizon; table = sym is; batch = n.batch; replicas = n.replicas };
-      queries_are = subst (λ (o : Option (List ℕ)). IsSomeAnd o (λ log. IsQueryLog log g.queries)) (sym (same v.queries)) asked.setting.queries_are;
-      clicks_are = subst (λ (o : Option (List ℕ)). IsSomeAnd o (λ log. IsLogOf log g)) (sym (same v.clicks)) asked.setting.clicks_are;
-      ends = ends_there (told v.clicks) g end_ asked.setting.clicks_are ends;
-    })
+    grind (arith, ends_there)
 
 -- ---- a run that ended well, and the lines of the journals that were read back
 
 module _ (g : Setting) (before after : Images) (read faulted : Type 0) (ran : Option RunLog) (outcome : RunOutcome) (over : RunsOver g before after read faulted ran (Ok outcome)) where
   pub began : IsSomeAnd ran (RunLeft g before after)
-  began = known ran (λ l. RestLeft g before after l.air.history faulted outcome.journals) (RunLeft g before after) over.rest over.left
-    where
-      known : {A : Type 0} (o : Option A) (P Q : A → Type 0) → IsSomeAnd o P → IfSome o Q → IsSomeAnd o Q
-      known None P Q h k = absurd h
-      known (Some x) P Q h k = k
+  began = grind arith
 
   module _ (o : Option (List ℕ)) (of_log : IsSomeAnd o (λ log. IsLogOf log g)) (table : List ShardRow) (same : table ≡ g.table) (ids : List EventId) (own : HaveIds g ids)
       (lines : List ReportLine) (are : (clicks : List ClickRec) → map (λ (c : ClickRec). c.id) clicks ≡ ids → lines ≡ map (λ (c : ClickRec). line_of outcome.journals table c.id) (distinct clicks)) where

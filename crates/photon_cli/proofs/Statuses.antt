@@ -27,18 +27,7 @@ Of n f =
     ((n ≡ 8) × (f ≡ fault.Memory))))))))))
 
 means : (f : RunFault) → Of (status_of f) f
-means (fault.Table n) = inl (n, refl)
-means (fault.Plan place) = inr (place, refl)
-means (fault.Refused log line w) = (log, line, w, refl)
-means fault.PlanRead = inl refl
-means (fault.Read log) = inr (log, refl)
-means (fault.Store place) = (place, refl)
-means (fault.Damaged disk at) = (disk, at, refl)
-means (fault.Topology what) = (what, refl)
-means (fault.Limit disk value) = (disk, value, refl)
-means (fault.Reshard u) = (u, refl)
-means fault.Write = refl
-means fault.Memory = (refl, refl)
+means h = grind arith
 
 fault_of : (f : RunFault) (n : ℕ) → status_of f ≡ n → Of n f
 fault_of f n e = subst (λ (k : ℕ). Of k f) e (means f)
@@ -78,30 +67,19 @@ unwelcome (mismatch.Joiners kept asked) holds x h = h x
 unwelcome _ holds x h = h
 
 pub fair_status : (f : RunFault) (holds : Type 0) → holds → IsWelcome holds f → (status_of f ≢ 7) × (status_of f ≢ 9)
-fair_status f holds x h = (
-  λ seven. let told = damaged_of f seven in subst (IsWelcome holds) told.2 h x,
-  λ nine. let told = mismatch_of f nine in unwelcome told.0 holds x (subst (IsWelcome holds) told.1 h),
-)
+fair_status f holds x h = grind (arith, damaged_of, mismatch_of, unwelcome)
 
 -- what is wrong with a log or a plan tells nothing of a store
 pub log_fair : (f : RunFault) (log : LogName) → IsLogFault log f → IsWelcome ⊤ f
-log_fair f log (inl (line, w, e)) = subst (IsWelcome ⊤) (sym e) tt
-log_fair f log (inr (inl e)) = subst (IsWelcome ⊤) (sym e) tt
-log_fair f log (inr (inr e)) = subst (IsWelcome ⊤) (sym e) tt
+log_fair f log h = grind arith
 
 pub plan_fair : (stops : Type 0) (f : RunFault) → IsPlanFault f → IsOfDrill stops f
-plan_fair stops f (inl (place, e)) = subst (IsOfDrill stops) (sym e) tt
-plan_fair stops f (inr (inl e)) = subst (IsOfDrill stops) (sym e) tt
-plan_fair stops f (inr (inr e)) = subst (IsOfDrill stops) (sym e) tt
+plan_fair stops f h = grind arith
 
 -- a drill's fault, by whether there are stops
 module _ (stops : Type 0) (f : RunFault) (is : IsOfDrill stops f) where
   pub drill_fair : (status_of f ≢ 7) × (status_of f ≢ 9) × (status_of f ≢ 10)
-  drill_fair = (
-    λ seven. let d = damaged_of f seven in subst (IsOfDrill stops) d.2 is,
-    λ nine. let m = mismatch_of f nine in subst (IsOfDrill stops) m.1 is,
-    λ ten. let l = fault_of f 10 ten in subst (IsOfDrill stops) l.2 is,
-  )
+  drill_fair = grind (arith, damaged_of, mismatch_of, fault_of)
 
   pub needs_stops : status_of f ≡ 6 → stops
   needs_stops six = let p = place_of f six in subst (IsOfDrill stops) p.1 is
@@ -110,26 +88,15 @@ module _ (stops : Type 0) (f : RunFault) (is : IsOfDrill stops f) where
 
 -- of each that is told of a log
 pub of_log : (P : RunFault → Type 0) (log : LogName) → ((line : ℕ) (w : Why) → P (fault.Refused log line w)) → P (failed_read log) → P fault.Memory → (f : RunFault) → IsLogFault log f → P f
-of_log P log refused read memory f (inl (line, w, e)) = subst P (sym e) (refused line w)
-of_log P log refused read memory f (inr (inl e)) = subst P (sym e) read
-of_log P log refused read memory f (inr (inr e)) = subst P (sym e) memory
+of_log h log refused read memory f k = grind arith
 
 -- a run's fault is told behind all that comes before the run
 pub run_past : (f : RunFault) → IsOfRun f → IsPast f
-run_past (fault.Read log) h = tt
-run_past (fault.Store place) h = tt
-run_past (fault.Damaged disk at) h = tt
-run_past (fault.Topology what) h = tt
-run_past (fault.Limit disk value) h = tt
-run_past fault.Memory h = tt
-run_past _ h = absurd h
+run_past k h = grind arith
 
 -- none of these is of status 2 or 3
 pub past_status : (f : RunFault) → IsPast f → (status_of f ≢ 2) × (status_of f ≢ 3)
-past_status f h = (
-  λ two. ⊎_elim (λ row. subst IsPast row.1 h) (λ place. subst IsPast place.1 h) (two_of f two),
-  λ three. let told = line_of f three in subst IsPast told.3 h,
-)
+past_status f h = grind (arith, two_of, line_of)
 
 -- A fault is told before the run, or, behind a table, later.
 module _ (behind : RunFault → Type 0) (shards : Text) (f : RunFault) where
@@ -138,9 +105,7 @@ module _ (behind : RunFault → Type 0) (shards : Text) (f : RunFault) where
 
   -- it names the first bad row of the table, unless one that is told behind a table names a row
   pub row_of : ((n : ℕ) → f ≡ fault.Table n → behind f → ⊥) → IsKnown → (n : ℕ) → f ≡ fault.Table n → IsFirstBad shards n
-  row_of never (inl (inl (row, e, first))) n is = let same : row ≡ n = cc in subst (IsFirstBad shards) same first
-  row_of never (inl (inr (table, h))) n is = absurd (never n is h)
-  row_of never (inr (table, h)) n is = absurd (subst IsPast is h)
+  row_of never h n is = grind arith
 
   -- where the table is bad, that is told
   pub bad_row : (n : ℕ) → IsFirstBad shards n → IsKnown → status_of f ≡ 2
@@ -152,32 +117,20 @@ module _ (behind : RunFault → Type 0) (shards : Text) (f : RunFault) where
 
 -- what is wrong with a log names no row
 log_row : (log : LogName) (f : RunFault) (n : ℕ) → f ≡ fault.Table n → IsLogFault log f → ⊥
-log_row log f n is (inl (line, w, e)) = cc (sym is ∙ e)
-log_row log f n is (inr (inl e)) = cc (sym is ∙ e)
-log_row log f n is (inr (inr e)) = cc (sym is ∙ e)
+log_row log f n is h = grind arith
 
 pub join_row : (shards : Text) (f : RunFault) → IsKnown IsOfLogs shards f → (n : ℕ) → f ≡ fault.Table n → IsFirstBad shards n
 join_row shards f known n is = row_of IsOfLogs shards f (λ m e (log, h). log_row log f m e h) known n is
 
 past_join : (f : RunFault) → IsPast f → IsOfJoin f
-past_join (fault.Plan place) h = h
-past_join fault.PlanRead h = h
-past_join (fault.Reshard u) h = h
-past_join _ h = tt
+past_join k h = grind arith
 
 pub join_own : (shards : Text) (f : RunFault) → IsKnown IsOfLogs shards f → IsOfJoin f
-join_own shards f (inl (inl (row, e, first))) = subst IsOfJoin (sym e) tt
-join_own shards f (inl (inr (table, (log, h)))) = of_log IsOfJoin log (λ line w. tt) tt tt f h
-join_own shards f (inr (table, h)) = past_join f h
+join_own shards f h = grind (arith, of_log, past_join)
 
 -- what names neither a row nor a line is told behind all that
 pub join_past : (f : RunFault) → IsOfJoin f → ((n : ℕ) → f ≡ fault.Table n → ⊥) → ((log : LogName) (line : ℕ) (w : Why) → f ≡ fault.Refused log line w → ⊥) → IsPast f
-join_past (fault.Table n) own row line = row n refl
-join_past (fault.Plan place) own row line = own
-join_past (fault.Refused log n w) own row line = line log n w refl
-join_past fault.PlanRead own row line = own
-join_past (fault.Reshard u) own row line = own
-join_past _ own row line = tt
+join_past h own row line = grind arith
 
 pub join_two : (shards : Text) (f : RunFault) → IsKnown IsOfLogs shards f → status_of f ≡ 2 → (n : ℕ) × IsFirstBad shards n
 join_two shards f known two = ⊎_elim (λ row. (row.0, join_row shards f known row.0 row.1)) (λ place. absurd (subst IsOfJoin place.1 (join_own shards f known))) (two_of f two)
@@ -191,71 +144,33 @@ early_left shards f (inr (other, (log, inr (inr e)))) table read = inr (ap statu
 
 pub named : (told : List ℕ → Option (List ℕ)) (v : Values) (f : RunFault) → IsOfJoin f → ((n : ℕ) → f ≡ fault.Table n → IsFirstBad v.nodes.shards n)
     → ((log : LogName) (line : ℕ) (w : Why) → f ≡ fault.Refused log line w → Refuses told v.queries v.clicks log (record { line = line; why = w })) → IsNamed told v f
-named told v (fault.Table n) own row line = row n refl
-named told v (fault.Plan place) own row line = own
-named told v (fault.Refused log n w) own row line = line log n w refl
-named told v fault.PlanRead own row line = own
-named told v (fault.Reshard u) own row line = own
-named told v _ own row line = tt
+named told v h own row line = grind arith
 
 -- ---- of a drill
 
 pub drill_row : (shards : Text) (f : RunFault) → IsKnown IsOfPlanOrLogs shards f → (n : ℕ) → f ≡ fault.Table n → IsFirstBad shards n
-drill_row shards f known n is = row_of IsOfPlanOrLogs shards f (λ m e h. never m e h) known n is
-  where
-    never : (m : ℕ) → f ≡ fault.Table m → IsOfPlanOrLogs f → ⊥
-    never m e (inl (inl (place, p))) = cc (sym e ∙ p)
-    never m e (inl (inr (inl p))) = cc (sym e ∙ p)
-    never m e (inl (inr (inr p))) = cc (sym e ∙ p)
-    never m e (inr (log, h)) = log_row log f m e h
+drill_row shards f known n is = grind (arith, row_of, log_row)
 
 -- it adds no row
 pub drill_adds : (shards : Text) (f : RunFault) → IsKnown IsOfPlanOrLogs shards f → (u : Unfit) → f ≡ fault.Reshard u → ⊥
-drill_adds shards f (inl (inl (row, e, first))) u is = cc (sym is ∙ e)
-drill_adds shards f (inl (inr (table, inl (inl (place, e))))) u is = cc (sym is ∙ e)
-drill_adds shards f (inl (inr (table, inl (inr (inl e))))) u is = cc (sym is ∙ e)
-drill_adds shards f (inl (inr (table, inl (inr (inr e))))) u is = cc (sym is ∙ e)
-drill_adds shards f (inl (inr (table, inr (log, h)))) u is = subst IsOfJoin is (of_log IsOfJoin log (λ line w. tt) tt tt f h)
-drill_adds shards f (inr (table, h)) u is = subst IsPast is h
+drill_adds shards f h u is = grind (arith, of_log)
 
 -- what is told before the run behind a table, but for a read
 pub drill_early : (shards : Text) (f : RunFault) → IsEarly IsOfPlanOrLogs shards f → HasTable shards → (IsFailedRead f → ⊥) → (status_of f ≡ 2) ⊎ ((status_of f ≡ 3) ⊎ (status_of f ≡ 8))
-drill_early shards f (inl (row, e, first)) (table, text) read = absurd (none_bad shards row table first text.0 text.1)
-drill_early shards f (inr (other, inl (inl (place, e)))) table read = inl (ap status_of e)
-drill_early shards f (inr (other, inl (inr (inl e)))) table read = absurd (read (inl e))
-drill_early shards f (inr (other, inl (inr (inr e)))) table read = inr (inr (ap status_of e))
-drill_early shards f (inr (other, inr (log, h))) table read = inr (early_left shards f (inr (other, (log, h))) table read)
+drill_early shards f h k read = grind (arith, early_left)
 
 -- what is told where the plan is bad
 pub plan_left : (f : RunFault) (place : Field) → IsBeforeLogs place f → (IsFailedRead f → ⊥) → (status_of f ≡ 2) ⊎ (status_of f ≡ 8)
-plan_left f place (inl (n, e)) read = inl (ap status_of e)
-plan_left f place (inr (inl e)) read = inl (ap status_of e)
-plan_left f place (inr (inr (inl e))) read = absurd (read (inl e))
-plan_left f place (inr (inr (inr e))) read = inr (ap status_of e)
+plan_left f place h read = grind arith
 
 -- what is left of a drill where no count rose and nothing is refused
 pub drill_left : (stops : Type 0) (f : RunFault) → ((u : Unfit) → f ≡ fault.Reshard u → ⊥) → ((n : ℕ) → f ≡ fault.Table n → ⊥) → ((place : Field) → f ≡ fault.Plan place → ⊥) → ((log : LogName) (line : ℕ) (w : Why) → f ≡ fault.Refused log line w → ⊥) → (IsFailedRead f → ⊥) → (f ≡ fault.Write → ⊥) → IsOfDrill stops f
     → ((status_of f ≡ 6) × stops) ⊎ (status_of f ≡ 8)
-drill_left stops (fault.Table n) adds row bad line read write fair = absurd (row n refl)
-drill_left stops (fault.Plan at) adds row bad line read write fair = absurd (bad at refl)
-drill_left stops (fault.Refused log n w) adds row bad line read write fair = absurd (line log n w refl)
-drill_left stops fault.PlanRead adds row bad line read write fair = absurd (read (inl refl))
-drill_left stops (fault.Read log) adds row bad line read write fair = absurd (read (inr (log, refl)))
-drill_left stops (fault.Store at) adds row bad line read write fair = inl (refl, fair)
-drill_left stops (fault.Damaged disk at) adds row bad line read write fair = absurd fair
-drill_left stops (fault.Topology what) adds row bad line read write fair = absurd fair
-drill_left stops (fault.Limit disk value) adds row bad line read write fair = absurd fair
-drill_left stops (fault.Reshard u) adds row bad line read write fair = absurd (adds u refl)
-drill_left stops fault.Write adds row bad line read write fair = absurd (write refl)
-drill_left stops fault.Memory adds row bad line read write fair = inr refl
+drill_left stops h adds row bad line read write fair = grind arith
 
 pub named_in_drill : (told : List ℕ → Option (List ℕ)) (v : Values) (file : Text) (f : RunFault) → ((u : Unfit) → f ≡ fault.Reshard u → ⊥) → ((n : ℕ) → f ≡ fault.Table n → IsFirstBad v.nodes.shards n) → ((place : Field) → f ≡ fault.Plan place → IsBadIn told file place)
     → ((log : LogName) (line : ℕ) (w : Why) → f ≡ fault.Refused log line w → Refuses told v.queries v.clicks log (record { line = line; why = w })) → IsNamedInDrill told v file f
-named_in_drill told v file (fault.Table n) adds row bad line = row n refl
-named_in_drill told v file (fault.Plan place) adds row bad line = bad place refl
-named_in_drill told v file (fault.Refused log n w) adds row bad line = line log n w refl
-named_in_drill told v file (fault.Reshard u) adds row bad line = absurd (adds u refl)
-named_in_drill told v file _ adds row bad line = tt
+named_in_drill told v file h adds row bad line = grind arith
 
 -- ---- of a bulk run
 
@@ -263,27 +178,16 @@ pub bulk_row : (shards : Text) (f : RunFault) → IsKnown (λ e. e ≡ fault.Mem
 bulk_row shards f known n is = row_of (λ e. e ≡ fault.Memory) shards f (λ m e h. cc (sym e ∙ h)) known n is
 
 past_bulk : (f : RunFault) → IsPast f → IsOfBulk f
-past_bulk (fault.Plan place) h = h
-past_bulk (fault.Refused log line w) h = h
-past_bulk fault.PlanRead h = h
-past_bulk (fault.Reshard u) h = h
-past_bulk _ h = tt
+past_bulk k h = grind arith
 
 pub bulk_own : (shards : Text) (f : RunFault) → IsKnown (λ e. e ≡ fault.Memory) shards f → IsOfBulk f
-bulk_own shards f (inl (inl (row, e, first))) = subst IsOfBulk (sym e) tt
-bulk_own shards f (inl (inr (table, e))) = subst IsOfBulk (sym e) tt
-bulk_own shards f (inr (table, h)) = past_bulk f h
+bulk_own shards f h = grind (arith, past_bulk)
 
 pub bulk_two : (shards : Text) (f : RunFault) → IsKnown (λ e. e ≡ fault.Memory) shards f → status_of f ≡ 2 → (n : ℕ) × IsFirstBad shards n
 bulk_two shards f known two = ⊎_elim (λ row. (row.0, bulk_row shards f known row.0 row.1)) (λ place. absurd (subst IsOfBulk place.1 (bulk_own shards f known))) (two_of f two)
 
 pub named_in_bulk : (v : BulkValues) (f : RunFault) → IsOfBulk f → ((n : ℕ) → f ≡ fault.Table n → IsFirstBad v.nodes.shards n) → IsNamedInBulk v f
-named_in_bulk v (fault.Table n) own row = row n refl
-named_in_bulk v (fault.Plan place) own row = own
-named_in_bulk v (fault.Refused log n w) own row = own
-named_in_bulk v fault.PlanRead own row = own
-named_in_bulk v (fault.Reshard u) own row = own
-named_in_bulk v _ own row = tt
+named_in_bulk v h own row = grind arith
 
 -- ---- of a verification
 
@@ -291,21 +195,10 @@ pub log_verify : (f : RunFault) → IsLogFault Clicks f → IsOfVerify f
 log_verify f h = of_log IsOfVerify Clicks (λ line w. tt) tt tt f h
 
 pub past_verify : (f : RunFault) → IsPast f → IsOfVerify f
-past_verify (fault.Table n) h = h
-past_verify (fault.Plan place) h = h
-past_verify (fault.Refused log line w) h = absurd h
-past_verify fault.PlanRead h = h
-past_verify (fault.Reshard u) h = h
-past_verify _ h = tt
+past_verify k h = grind arith
 
 pub verify_past : (f : RunFault) → IsOfVerify f → ((line : ℕ) (w : Why) → f ≡ fault.Refused Clicks line w → ⊥) → IsPast f
-verify_past (fault.Table n) own line = own
-verify_past (fault.Plan place) own line = own
-verify_past (fault.Refused Queries n w) own line = own
-verify_past (fault.Refused Clicks n w) own line = line n w refl
-verify_past fault.PlanRead own line = own
-verify_past (fault.Reshard u) own line = own
-verify_past _ own line = tt
+verify_past h own line = grind arith
 
 pub never_two : (f : RunFault) → IsOfVerify f → status_of f ≢ 2
 never_two f own two = ⊎_elim (λ row. subst IsOfVerify row.1 own) (λ place. subst IsOfVerify place.1 own) (two_of f two)
@@ -315,27 +208,14 @@ of_clicks Queries line w own = absurd own
 of_clicks Clicks line w own = refl
 
 pub click_line : (f : RunFault) → IsOfVerify f → status_of f ≡ 3 → (line : ℕ) × (w : Why) × (f ≡ fault.Refused Clicks line w)
-click_line f own three =
-    let told = line_of f three in
-    let log : told.0 ≡ Clicks = of_clicks told.0 told.1 told.2 (subst IsOfVerify told.3 own) in
-    (told.1, told.2, subst (λ (l : LogName). f ≡ fault.Refused l told.1 told.2) log told.3)
+click_line f own three = grind (arith, line_of, of_clicks)
 
 pub never_written : (f : RunFault) → IsLogFault Clicks f → f ≡ fault.Write → ⊥
-never_written f (inl (line, w, e)) is = cc (sym is ∙ e)
-never_written f (inr (inl e)) is = cc (sym is ∙ e)
-never_written f (inr (inr e)) is = cc (sym is ∙ e)
+never_written f h is = grind arith
 
 -- what is told of a log that isn't valid
 pub unreadable : (f : RunFault) → IsLogFault Clicks f → (IsFailedRead f → ⊥) → (status_of f ≡ 3) ⊎ (status_of f ≡ 8)
-unreadable f (inl (line, w, e)) read = inl (ap status_of e)
-unreadable f (inr (inl e)) read = absurd (read (inr (Clicks, e)))
-unreadable f (inr (inr e)) read = inr (ap status_of e)
+unreadable f h read = grind arith
 
 pub named_in_verify : (told : List ℕ → Option (List ℕ)) (clicks : Text) (f : RunFault) → IsOfVerify f → ((line : ℕ) (w : Why) → f ≡ fault.Refused Clicks line w → IsSomeAnd (told clicks) (λ log. RefusesClick log (record { line = line; why = w }))) → IsNamedInVerify told clicks f
-named_in_verify told clicks (fault.Table n) own line = own
-named_in_verify told clicks (fault.Plan place) own line = own
-named_in_verify told clicks (fault.Refused Queries n w) own line = own
-named_in_verify told clicks (fault.Refused Clicks n w) own line = line n w refl
-named_in_verify told clicks fault.PlanRead own line = own
-named_in_verify told clicks (fault.Reshard u) own line = own
-named_in_verify told clicks _ own line = tt
+named_in_verify told clicks h own line = grind arith
