@@ -50,7 +50,7 @@ def refused(words):
     def run(case):
         one_line(case)
         ended = case.run(words)
-        case.check(ended.status == 2 and ended.err.startswith(("error: ", "Usage: ")) and ended.out == b"", f"status {ended.status}, {ended.err!r}, output {ended.out!r}")
+        case.check(ended.status == 2 and (ended.err.startswith("error: ") or "Usage: photon" in ended.err) and ended.out == b"", f"status {ended.status}, {ended.err!r}, output {ended.out!r}")
         case.check(not os.path.exists(case.path("state")), "the state directory was touched")
     return run
 

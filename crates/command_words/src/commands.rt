@@ -17,7 +17,8 @@ fn argument<'a>(alloc: Global, option: &Opt) -> Arg<'a>
 {
     let argument = Arg::new(alloc, option.name)
         .long(option.name)
-        .required(option.default.is_none());
+        .required(option.default.is_none())
+        .help(option.help);
     match option.form {
         Form::Number(low, high) => argument.value_parser(ValueParser::unsigned(low, high)),
         Form::AnyText => argument,
@@ -25,16 +26,17 @@ fn argument<'a>(alloc: Global, option: &Opt) -> Arg<'a>
     }
 }
 
-/// The command of that name with these options.
+/// The command of that name with these options, and what the help says of it.
 fn with_options<'a>(
     alloc: Global,
     name: &'a str,
+    about: &'a str,
     options: &[Opt],
 ) -> Result<Command<'a>, AllocError>
     ensures shape { IfOk result (λ c. app_of c ≡ app_with name.now (map option_in options.now)) }
     ensures own { IfOk result (λ c. (fields_of c).has_globals ≡ false) }
 {
-    let mut command = Command::new(alloc, name);
+    let mut command = Command::new(alloc, name).about(about);
     for option in options {
         command = command.arg(argument(alloc, option))?;
     }
@@ -46,11 +48,12 @@ fn with<'a>(
     alloc: Global,
     line: Command<'a>,
     name: &'a str,
+    about: &'a str,
     options: &[Opt],
 ) -> Result<Command<'a>, AllocError>
     ensures { IfOk result (λ c. app_of c ≡ with_subcommand (app_of line.entry) (shape_with name.now (map option_in options.now))) }
 {
-    line.subcommand(with_options(alloc, name, options)?)
+    line.subcommand(with_options(alloc, name, about, options)?)
 }
 
 /// The whole command line.
@@ -60,9 +63,33 @@ pub(crate) fn photon<'a>(alloc: Global) -> Result<Command<'a>, AllocError>
     let line = Command::new(alloc, "photon")
         .subcommand_required(true)
         .disable_help_subcommand(true);
-    let line = with(alloc, line, "join", &JOIN)?;
-    let line = with(alloc, line, "drill", &DRILL)?;
-    let line = with(alloc, line, "verify", &VERIFY)?;
-    let line = with(alloc, line, "bulk", &BULK)?;
-    with(alloc, line, "reshard", &RESHARD)
+    let line = with(
+        alloc,
+        line,
+        "join",
+        "Joins two logs over a state directory",
+        &JOIN,
+    )?;
+    let line = with(
+        alloc,
+        line,
+        "drill",
+        "Joins two logs while planned faults strike",
+        &DRILL,
+    )?;
+    let line = with(
+        alloc,
+        line,
+        "verify",
+        "Reports what a state directory keeps",
+        &VERIFY,
+    )?;
+    let line = with(alloc, line, "bulk", "Drills over logs that it makes", &BULK)?;
+    with(
+        alloc,
+        line,
+        "reshard",
+        "Adds a row to the table of shards",
+        &RESHARD,
+    )
 }
