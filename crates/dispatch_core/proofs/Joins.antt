@@ -1,6 +1,6 @@
 -- Joins that are dealt to the joiners of a site.
-use Rattle.std.proofs.Common.{◌≡◌, ℕ, zero, suc, ◌+◌, ◌*◌, ◌%◌, ◌<◌, ◌≤◌, Bool, true, false, cond, nat_lt, List, [], ◌∷◌, ◌++◌, map, Option, Some, None, refl, sym, ap, ◌∙◌, arith}
-use Rattle.dispatch_core.proofs.Words.{zip, option_map, lt-ltb, le-ltb, cond-true, cond-false, append_assoc, append-nil, map-append, Click, ClickLine, at, Packet, Join, Node, To, AnyJoiner, Setting, Config, IsOf, IsTo, Addressed, DispatcherKept, DispatcherLive, Fresh, join, fresh_joins, trying_joins, join_if, fresh_of, joiner_at, dealt, next_after, GoInTurn, Puts, waiting_joins, AreClicksAt, FreshLine, Outbox}
+use Rattle.std.proofs.Common.{◌≡◌, ℕ, zero, suc, ◌+◌, ◌*◌, ◌%◌, ◌<◌, ◌≤◌, Bool, true, false, cond, nat_lt, List, [], ◌∷◌, ◌++◌, map, Option, Some, None, refl, sym, ap, ◌∙◌, subst, arith}
+use Rattle.dispatch_core.proofs.Words.{zip, option_map, lt-ltb, le-ltb, cond-true, cond-false, append_assoc, append-nil, map-append, Click, ClickLine, at, Packet, Join, Node, To, AnyJoiner, Setting, Config, IsTo, Addressed, DispatcherKept, DispatcherLive, Fresh, join, fresh_joins, trying_joins, join_if, fresh_of, joiner_at, dealt, next_after, GoInTurn, Puts, waiting_joins, AreClicksAt, FreshLine, Outbox}
 
 -- ---- one list behind another
 
@@ -40,22 +40,23 @@ waiting_more x xs = go x.done
 abbrev pub joined : ℕ → ℕ × Click → To × Packet
 joined site j = join site j.0 j.1
 
-to_site : (g : Setting) (site : ℕ) (c : Config) (k : ℕ) → IsOf c g → site < 2 → k < c.joiners → IsTo g (AnyJoiner site) (joiner_at site c k)
-to_site g zero c k is two below =
-    let number : ℕ = (4 + c.replicas) + 0 * c.joiners + k in
-    let middle : ℕ = (4 + g.replicas) + g.joiners in
-    let front : number < middle = omega (arith, is.replicas, is.joiners) in
-    ((omega (arith, is.replicas, is.joiners), omega (arith, is.replicas, is.joiners)), cond-true (nat_lt number middle) 0 1 (lt-ltb number middle front))
-to_site g (suc zero) c k is two below =
-    let number : ℕ = (4 + c.replicas) + 1 * c.joiners + k in
-    let middle : ℕ = (4 + g.replicas) + g.joiners in
-    let behind : middle ≤ number = omega (arith, is.replicas, is.joiners) in
-    ((omega (arith, is.replicas, is.joiners), omega (arith, is.replicas, is.joiners)), cond-false (nat_lt number middle) 0 1 (le-ltb number middle behind))
-to_site g (suc (suc s)) c k is two below = absurd (omega (arith, two))
+to_site : (g : Setting) (site k : ℕ) → site < 2 → k < g.config.joiners → IsTo g (AnyJoiner site) (joiner_at site g.config k)
+to_site g zero k two below =
+    let number : ℕ = (4 + g.config.replicas) + 0 * g.config.joiners + k in
+    let middle : ℕ = (4 + g.config.replicas) + g.config.joiners in
+    let front : number < middle = omega arith in
+    ((omega arith, omega arith), cond-true (nat_lt number middle) 0 1 (lt-ltb number middle front))
+to_site g (suc zero) k two below =
+    let number : ℕ = (4 + g.config.replicas) + 1 * g.config.joiners + k in
+    let middle : ℕ = (4 + g.config.replicas) + g.config.joiners in
+    let behind : middle ≤ number = omega arith in
+    ((omega arith, omega arith), cond-false (nat_lt number middle) 0 1 (le-ltb number middle behind))
+to_site g (suc (suc s)) k two below = absurd (omega (arith, two))
 
-pub addressed : (g : Setting) (site : ℕ) (c : Config) (k : ℕ) → IsOf c g → site < 2 → k < c.joiners → ((m : ℕ) → m % c.joiners < c.joiners) → (js : List (ℕ × Click)) → Addressed g (map (joined site) js) (dealt site c k js)
+pub addressed : (g : Setting) (site : ℕ) (c : Config) (k : ℕ) → g.config ≡ c → site < 2 → k < c.joiners → ((m : ℕ) → m % c.joiners < c.joiners) → (js : List (ℕ × Click)) → Addressed g (map (joined site) js) (dealt site c k js)
 addressed g site c k is two below wraps [] = tt
-addressed g site c k is two below wraps (j ∷ js) = ((to_site g site c k is two below, refl), addressed g site c ((k + 1) % c.joiners) is two (wraps (k + 1)) wraps js)
+addressed g site c k is two below wraps (j ∷ js) =
+    ((subst (λ (x : Config). k < x.joiners → IsTo g (AnyJoiner site) (joiner_at site x k)) is (to_site g site k two) below, refl), addressed g site c ((k + 1) % c.joiners) is two (wraps (k + 1)) wraps js)
 
 -- ---- the Joins of a Tick
 

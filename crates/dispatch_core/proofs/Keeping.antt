@@ -1,6 +1,6 @@
 -- What the core stands for once a change is kept.
 use Rattle.std.proofs.Common.{◌≡◌, ℕ, ◌<◌, true, false, ◌==◌, List, [], ◌∷◌, ◌++◌, take, drop, nat_eq, refl, sym, ap, subst, ◌∙◌, arith}
-use Rattle.dispatch_core.proofs.Words.{eq-eqb, or_left, or_right, append-nil, has, without, Distinct, clash, has_push-false, has_without-false, distinct_push, distinct_without, contains, Setting, land, DispatcherKept, DispatcherLive, Config, land_dispatcher, mark, fresh_of, IsRising, AreBefore, note_of, changed, live_of, IsOf, IsOrdered, Stands, Fits, IsAlike, FreshLine, DispatchCore, Dealer, Change, Advance, Retry, Take}
+use Rattle.dispatch_core.proofs.Words.{eq-eqb, or_left, or_right, append-nil, has, without, Distinct, clash, has_push-false, has_without-false, distinct_push, distinct_without, contains, Setting, land, DispatcherKept, DispatcherLive, land_dispatcher, mark, fresh_of, IsRising, AreBefore, note_of, changed, live_of, IsOrdered, Stands, Fits, IsAlike, FreshLine, DispatchCore, Dealer, Change, Advance, Retry, Take}
 use Rattle.dispatch_core.proofs.Rising.{rising_after_done, before_after_done, rising_push, before_push, rising_mark, before_mark}
 
 -- ---- each change keeps the order
@@ -35,16 +35,13 @@ leave_ordered p l o = record { rising = o.rising; before = o.before; due_once = 
 
 -- ---- a changed core
 
-pub of_alike : (g : Setting) (old new : DispatchCore) → new.dealer ≡ old.dealer → IsOf old.dealer.config g → IsOf new.dealer.config g
-of_alike g old new same is = subst (λ (d : Dealer). IsOf d.config g) (sym same) is
-
 pub ordered_core : (g : Setting) (core : DispatchCore) (k : DispatcherKept) (l : DispatcherLive) → Stands g core k l → IsOrdered (live_of core)
 ordered_core g core k l s = subst (λ (m : DispatcherLive). IsOrdered m) (sym s.live) s.ordered
 
 -- the new core holds what the change makes of what the old one holds, and the pending positions are those kept now
 pub kept_as : (g : Setting) (old new : DispatchCore) (k now : DispatcherKept) (l : DispatcherLive) (f : DispatcherLive → DispatcherLive) → Stands g old k l → new.dealer ≡ old.dealer → live_of new ≡ f (live_of old)
     → ((p : ℕ) → contains nat_eq new.pending p ≡ has now.pending p) → IsOrdered (f l) → Stands g new now (f l)
-kept_as g old new k now l f s same live pending ordered = record { of_setting = of_alike g old new same s.of_setting; live = live ∙ ap f s.live; pending = pending; ordered = ordered }
+kept_as g old new k now l f s same live pending ordered = record { of_setting = s.of_setting ∙ ap (λ (d : Dealer). d.config) (sym same); live = live ∙ ap f s.live; pending = pending; ordered = ordered }
 
 pub same_pending : (g : Setting) (old new : DispatchCore) (k : DispatcherKept) (l : DispatcherLive) → Stands g old k l → new.pending ≡ old.pending → (p : ℕ) → contains nat_eq new.pending p ≡ has k.pending p
 same_pending g old new k l s e p = ap (λ set. contains nat_eq set p) e ∙ s.pending p
@@ -52,12 +49,12 @@ same_pending g old new k l s e p = ap (λ set. contains nat_eq set p) e ∙ s.pe
 -- ---- room
 
 pub alike_stands : (g : Setting) (old new : DispatchCore) (k : DispatcherKept) (l : DispatcherLive) → IsAlike old new → Stands g old k l → Stands g new k l
-alike_stands g old new k l a s = record { of_setting = of_alike g old new a.dealer s.of_setting; live = a.live ∙ s.live; pending = λ p. a.pending p ∙ s.pending p; ordered = s.ordered }
+alike_stands g old new k l a s = record { of_setting = s.of_setting ∙ ap (λ (d : Dealer). d.config) (sym a.dealer); live = a.live ∙ s.live; pending = λ p. a.pending p ∙ s.pending p; ordered = s.ordered }
 
 -- only whose turn it is changes
 pub turned : (g : Setting) (old new : DispatchCore) (k : DispatcherKept) (l : DispatcherLive) → new.dealer.config ≡ old.dealer.config → live_of new ≡ live_of old → new.pending ≡ old.pending → Stands g old k l → Stands g new k l
 turned g old new k l config live pending s =
-    record { of_setting = subst (λ (c : Config). IsOf c g) (sym config) s.of_setting; live = live ∙ s.live; pending = same_pending g old new k l s pending; ordered = s.ordered }
+    record { of_setting = s.of_setting ∙ sym config; live = live ∙ s.live; pending = same_pending g old new k l s pending; ordered = s.ordered }
 
 -- a change by its case
 pub makes : (g : Setting) (old new : DispatchCore) (k : DispatcherKept) (l : DispatcherLive) (change this : Change) → change ≡ this → (Fits g old k l this → Stands g new (land land_dispatcher (note_of this) k) (changed this l))

@@ -1,6 +1,6 @@
 -- From what the core's parts say to the rows of the turn table.
 use Rattle.std.proofs.Common.{◌≡◌, ℕ, ◌<◌, ◌%◌, Bool, true, false, cond, List, [], ◌∷◌, ◌++◌, map, nat_eq, sym, ap, subst, ◌∙◌, arith}
-use Rattle.dispatch_core.proofs.Words.{list_any, cond-true, cond-false, Click, Packet, Node, has, Each, Setting, Addressed, Out, DispatcherKept, DispatcherLive, waits, fresh_of, IsRising, dealt, next_after, GoInTurn, note_of, changed, Puts, IsJoin, ArePackets, IsOf, Stands, Fits, IsTurn, Sends, IsDealt, DispatchCore, Turn, FreshLine, Change, Take, Outbox}
+use Rattle.dispatch_core.proofs.Words.{list_any, cond-true, cond-false, Click, Packet, Node, has, Each, Setting, Addressed, Out, DispatcherKept, DispatcherLive, waits, fresh_of, IsRising, dealt, next_after, GoInTurn, note_of, changed, Puts, IsJoin, ArePackets, Stands, Fits, IsTurn, Sends, IsDealt, DispatchCore, Turn, FreshLine, Change, Take, Outbox}
 use Rattle.dispatch_core.proofs.Joins.{joined, addressed, in_turn, next_below}
 use Rattle.dispatch_core.proofs.Sets.{any_has}
 use Rattle.dispatch_core.proofs.Spelled.{dealt_spelled}
@@ -9,7 +9,7 @@ use Rattle.dispatch_core.proofs.Keeping.{ordered_core}
 wraps : (n k : ℕ) → k < n → (m : ℕ) → m % n < n
 wraps n k below m = let some : 0 < n = omega arith in omega arith
 
-pub row_of : (g : Setting) (core : DispatchCore) (k : DispatcherKept) (l : DispatcherLive) (turn : Turn) (change : Change) (joins : List (ℕ × Click)) (out : Out DispatcherLive) → IsOf core.dealer.config g → Sends core turn change joins
+pub row_of : (g : Setting) (core : DispatchCore) (k : DispatcherKept) (l : DispatcherLive) (turn : Turn) (change : Change) (joins : List (ℕ × Click)) (out : Out DispatcherLive) → g.config ≡ core.dealer.config → Sends core turn change joins
     → note_of change ≡ out.note → map (joined core.dealer.site) joins ≡ out.packets → changed change l ≡ out.live → Fits g core k l change → IsTurn g core k l turn out
 row_of g core k l turn change joins out is s note packets live fits = record {
   note = ap note_of s.change_is ∙ note;

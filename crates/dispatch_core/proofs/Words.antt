@@ -41,7 +41,6 @@ pub use Rattle.turn_defs.specs.Dispatcher.{DispatcherKept, DispatcherLive, Fresh
 pub use Rattle.turn_defs.specs.Nodes.{Addressed, IsTo}
 pub use Rattle.turn_defs.specs.Packets.{IsPacket}
 pub use Rattle.turn_defs.specs.Setting.{Setting}
-pub use Rattle.turn_defs.specs.Configs.{IsOf}
 pub use Rattle.turn_defs.specs.declared.config.Config.{Config}
 pub use Rattle.turn_defs.specs.Turns.{Note, Out, land}
 pub use Rattle.turn_defs.specs.declared.node.Input.{Input}

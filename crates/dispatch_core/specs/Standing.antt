@@ -9,7 +9,6 @@ use Rattle.log_records.specs.Lines.{ClickLine, at}
 use Rattle.turn_defs.specs.declared.node.Input.{Input}
 use Rattle.turn_defs.specs.declared.node.Input.TheVariants as model
 use Rattle.turn_defs.specs.Setting.{Setting}
-use Rattle.turn_defs.specs.Configs.{IsOf}
 use Rattle.turn_defs.specs.Nodes.{Addressed}
 use Rattle.turn_defs.specs.Turns.{Out}
 use Rattle.turn_defs.specs.Dispatcher.{DispatcherKept, DispatcherLive, dispatcher_turn, dispatcher_start, dispatcher_looks}
@@ -39,7 +38,7 @@ pub record IsOrdered (l : DispatcherLive) : Type 0 where
 
 -- the core stands for a dispatcher of the setting that keeps k and knows l
 pub record Stands (g : Setting) (core : DispatchCore) (k : DispatcherKept) (l : DispatcherLive) : Type 0 where
-  pub of_setting : IsOf core.dealer.config g
+  pub of_setting : g.config ≡ core.dealer.config
   pub live : live_of core ≡ l
   pub pending : (p : ℕ) → contains nat_eq core.pending p ≡ has k.pending p
   pub ordered : IsOrdered l
@@ -81,7 +80,7 @@ Carries g k l (input.Packet from packet) i = i ≡ model.Deliver from packet
 
 -- the core can take the input: a Start whatever it stood for, any other input where it stands for k and l
 abbrev pub Takes : Setting → DispatchCore → DispatcherKept → DispatcherLive → DispatchInput → Type 0
-Takes g core k l (input.Start offset pending) = IsOf core.dealer.config g
+Takes g core k l (input.Start offset pending) = g.config ≡ core.dealer.config
 Takes g core k l (input.Own line due) = Stands g core k l
 Takes g core k l (input.Tick clicks) = Stands g core k l
 Takes g core k l (input.Packet from packet) = Stands g core k l
@@ -97,7 +96,7 @@ out_of g site k l (model.Deliver from packet) = dispatcher_turn g site k l (mode
 
 -- the change may be kept: the state that it was decided for stands, and what it brings in fits it
 abbrev pub Fits : Setting → DispatchCore → DispatcherKept → DispatcherLive → Change → Type 0
-Fits g core k l (Start place pending due) = IsOf core.dealer.config g × (place ≡ k.offset) × (due.items ≡ k.pending) × ((p : ℕ) → contains nat_eq pending p ≡ has k.pending p) × Distinct k.pending
+Fits g core k l (Start place pending due) = (g.config ≡ core.dealer.config) × (place ≡ k.offset) × (due.items ≡ k.pending) × ((p : ℕ) → contains nat_eq pending p ≡ has k.pending p) × Distinct k.pending
 Fits g core k l (Take f) = Stands g core k l × (f.position ≡ l.place) × (f.position < f.end)
 Fits g core k l Nothing = Stands g core k l
 Fits g core k l (Advance e) = Stands g core k l

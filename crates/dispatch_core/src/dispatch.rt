@@ -6,7 +6,6 @@ ghost use Rattle.indexmap.specs.IndexSet.{contains, spare};
 ghost use Rattle.log_records.specs.Line.{IsClick};
 ghost use Rattle.log_records.specs.Lines.{at};
 ghost use Rattle.turn_defs.specs.Setting.{Setting};
-ghost use Rattle.turn_defs.specs.Configs.{IsOf};
 ghost use Rattle.turn_defs.specs.Turns.{Out, land, idle};
 ghost use Rattle.turn_defs.specs.declared.node.Input.{Input};
 ghost use Rattle.turn_defs.specs.Dispatcher.{DispatcherKept, DispatcherLive, land_dispatcher, has_room, retries, takes, ends, parks};
@@ -199,7 +198,7 @@ impl DispatchCore {
 
     // Start: the place is the offset, what is pending is due, and nothing is fresh or in trial. Linear in what is pending.
     fn start(&self, offset: u64, pending: Vec<u64>) -> Result<Turn, AllocError>
-        ensures turn { (g : Setting) (k : DispatcherKept) (l : DispatcherLive) → IsOf self.now.dealer.config g → IsKept k offset pending.items →
+        ensures turn { (g : Setting) (k : DispatcherKept) (l : DispatcherLive) → g.config ≡ self.now.dealer.config → IsKept k offset pending.items →
             IfOk result (λ turn. IsTurn g self.now k l turn (dispatcher_start k)) }
         ensures joiners { IfOk result (IsDealt self.now 0) }
     {

@@ -1,7 +1,7 @@
 -- A turn of a dispatcher over its disks, and its restart, as the states' entries.
 use Rattle.std.proofs.Common.{◌≡◌, ◌⊎◌, inl, inr, ⊎_elim, ℕ, ◌≤◌, true, List, [], length, Option, Some, None, refl, sym, ap, ◌∙◌, subst}
 use Rattle.std.specs.Prelude.{is_some, option_map}
-use Rattle.dispatch_node.proofs.Words.{ends_idle, ends_done, MayTake, Config, IsOf, live_of, Bytes, Begin, End, Input, Setting, Note, Out, land, record_of, AreSpelled, Reads, IsJunk, State, Leads, row, written, closes, DispatcherKept, DispatcherLive, land_dispatcher, told, note_of, IsTurn, Stands, out_of, DispatchCore, Turn, DispatchNote, kept_as, takes_note, Holds, MayKeep, DispatcherState, SiteLeads, Knows, IsAsked, Parts, StandsAt, StandsBy, IsRecorded, IsTakenBy, landed_by, dispatcher_rows, IsLogOf, AreKeptPlaces, KeptOn, OnDisks, kept_or}
+use Rattle.dispatch_node.proofs.Words.{ends_idle, ends_done, MayTake, live_of, Bytes, Begin, End, Input, Setting, Note, Out, land, record_of, AreSpelled, Reads, IsJunk, State, Leads, row, written, closes, DispatcherKept, DispatcherLive, land_dispatcher, told, note_of, IsTurn, Stands, out_of, DispatchCore, Turn, DispatchNote, kept_as, takes_note, Holds, MayKeep, DispatcherState, SiteLeads, Knows, IsAsked, Parts, StandsAt, StandsBy, IsRecorded, IsTakenBy, landed_by, dispatcher_rows, IsLogOf, AreKeptPlaces, KeptOn, OnDisks, kept_or}
 use Rattle.offset_journal.specs.Offsets as offsets
 use Rattle.retry_log.specs.Pending as pending
 use Rattle.dispatch_node.proofs.Standing.{live_or, asked_at, row_is, row_goes, landed_is}
@@ -19,15 +19,11 @@ pub stands_again : (p q : Parts) (oi ri oj rj : List ℕ → Type 0) (s : Dispat
 stands_again p q oi ri oj rj s node at same setting places by = record {
   site = same.site ∙ at.site;
   own_core = same.own_core ∙ at.own_core ∙ sym same.site;
-  setting = subst (λ (g : Setting). IsOf q.core.dealer.config g) (sym setting) (subst (λ (c : Config). IsOf c s.node.setting) (sym same.config) at.setting);
+  setting = ap (λ (g : Setting). g.config) setting ∙ at.setting ∙ sym same.config;
   log = subst (λ (g : Setting). IsLogOf q.log g) (sym setting) (subst (λ (l : List ℕ). IsLogOf l s.node.setting) (sym same.log) at.log);
   places = subst (λ (g : Setting). AreKeptPlaces g node.kept) (sym setting) places;
   by = by;
 }
-
--- the core's numbers are those of the setting
-pub config_is : (p : Parts) (oi ri : List ℕ → Type 0) (s : DispatcherState) (config : Config) → StandsAt p oi ri s → config ≡ p.core.dealer.config → IsOf config s.node.setting
-config_is p oi ri s config at is = subst (λ (c : Config). IsOf c s.node.setting) (sym is) at.setting
 
 -- with nothing in doubt
 pub quiet : (p : Parts) (oi ri : List ℕ → Type 0) (s : DispatcherState) → p.in_doubt ≡ None → StandsAt p oi ri s → Holds p.offset_state p.retry_state p.offset p.pending s.node.kept × Knows s.node.setting p.core s.node.kept s.node.live
@@ -65,7 +61,7 @@ pub record IsDecided (s : DispatcherState) (site : ℕ) (b : Bytes) (i : Input) 
   pub recorded : IsRecorded (note_of turn.change) written_note
 
 pub decides : (p : Parts) (oi ri : List ℕ → Type 0) (s : DispatcherState) (b : Bytes) (i : Input) (core : DispatchCore) (turn : Turn) (w : Option (DispatchNote × List ℕ)) → p.in_doubt ≡ None → StandsAt p oi ri s → MayTake s.node.live b → Reads s.node.setting b i
-    → ((g : Setting) (k : DispatcherKept) (live : Option DispatcherLive) (l : DispatcherLive) → IsLogOf p.log g → kept_as p.offset p.pending ≡ k → IsOf p.core.dealer.config g → Knows g p.core k live → IsAsked live i l → IsTurn g core k l turn (out_of g p.core.dealer.site k l i)) → IsRecorded (note_of turn.change) w
+    → ((g : Setting) (k : DispatcherKept) (live : Option DispatcherLive) (l : DispatcherLive) → IsLogOf p.log g → kept_as p.offset p.pending ≡ k → g.config ≡ p.core.dealer.config → Knows g p.core k live → IsAsked live i l → IsTurn g core k l turn (out_of g p.core.dealer.site k l i)) → IsRecorded (note_of turn.change) w
     → IsDecided s p.core.dealer.site b i (live_or (live_of p.core) s.node.live) core turn w
 decides p oi ri s b i core turn w none at may reads row recorded =
     let known = quiet p oi ri s none at in

@@ -54,7 +54,6 @@ pub use Rattle.tail_reader.specs.Next.{IsNext}
 pub use Rattle.tail_reader.specs.declared.tail.Next.{Next}
 pub use Rattle.tail_reader.specs.declared.tail.Next.TheVariants.{Line, Long}
 pub use Rattle.turn_defs.specs.Dispatcher.{DispatcherKept, DispatcherLive, Fresh, advances, after_done, dispatcher_gets, dispatcher_joined, dispatcher_looks, dispatcher_own, dispatcher_start, dispatcher_turn, done_end, ends, first_done, has_room, land_dispatcher, mark, parks, retries, taken, takes, waits, with_room}
-pub use Rattle.turn_defs.specs.Configs.{IsOf}
 pub use Rattle.turn_defs.specs.Setting.{Setting}
 pub use Rattle.turn_defs.specs.declared.config.Config.{Config}
 pub use Rattle.turn_defs.specs.Turns.{Note, Out, idle, land}

@@ -9,7 +9,6 @@ use Rattle.turn_defs.specs.Setting.{Setting}
 use Rattle.turn_defs.specs.Turns.{Note}
 use Rattle.site_node.specs.Bytes.{record_of, AreSpelled, Reads}
 use Rattle.site_node.specs.States.{State, Rows, row, Leads}
-use Rattle.turn_defs.specs.Configs.{IsOf}
 use Rattle.turn_defs.specs.Dispatcher.{DispatcherKept, DispatcherLive, dispatcher_start, dispatcher_turn, land_dispatcher}
 use Rattle.dispatch_core.specs.Changes.{told, note_of}
 use Rattle.dispatch_core.specs.Standing.{Stands, CanKeep}
@@ -90,7 +89,7 @@ StandsBy (Some d) p oi ri s = Doubts oi ri d.0 s.node.kept s.node.setting × IsO
 pub record StandsAt (p : Parts) (offset_image retry_image : List ℕ → Type 0) (s : DispatcherState) : Type 0 where
   pub site : p.site ≡ s.site
   pub own_core : p.core.dealer.site ≡ p.site
-  pub setting : IsOf p.core.dealer.config s.node.setting
+  pub setting : s.node.setting.config ≡ p.core.dealer.config
   pub log : IsLogOf p.log s.node.setting
   pub places : AreKeptPlaces s.node.setting s.node.kept
   pub by : StandsBy p.in_doubt p offset_image retry_image s

@@ -1,13 +1,12 @@
 // What a turn takes, with what its node looks up for it.
-ghost use Rattle.std.specs.Prelude.{◌≡◌, ◌≤◌, Option, true, IfOk, IfErr, IsErrOf, IsTrue};
-ghost use Rattle.outside.specs.Faults.{Rose};
+ghost use Rattle.std.specs.Prelude.{◌≡◌, Option, true, IfOk, IfErr, IsTrue};
+ghost use Rattle.outside.specs.Faults.{tallied};
 ghost use Rattle.turn_defs.specs.declared.node.Input.TheVariants as asked;
 ghost use Rattle.turn_defs.specs.Setting.{Setting};
-ghost use Rattle.turn_defs.specs.Configs.{IsOf};
 ghost use Rattle.turn_defs.specs.Dispatcher.{DispatcherKept, DispatcherLive, dispatcher_looks};
 ghost use Rattle.dispatch_core.specs.Spelled.{IsTaken};
 ghost use Rattle.dispatch_core.specs.Standing.{Carries, Stands, Takes};
-ghost use Rattle.site_node.specs.Faults.{IsReadFault};
+ghost use Rattle.site_node.specs.Faults.{IsReadFault, is_read_fault};
 ghost use Rattle.dispatch_node.specs.Kept.{kept_as};
 ghost use Rattle.dispatch_node.specs.Node.{IsAsked, Knows};
 ghost use Rattle.dispatch_node.specs.Places.{AreLivePlaces, IsLogOf};
@@ -30,12 +29,11 @@ pub(crate) fn look_up<D: Disk, L: LogFile>(
     ensures taken { IfOk result IsTaken }
     ensures carries { IsTrue L.tells → (g : Setting) (k : DispatcherKept) (live : Option DispatcherLive) (l : DispatcherLive) →
         IsLogOf (L.bytes clicks.old.tail.log) g → kept_as journals.now.offset.value.offset journals.now.retry.value.pending.keys ≡ k →
-        IsOf core.now.dealer.config g → Knows g core.now k live → IsAsked live input l →
+        g.config ≡ core.now.dealer.config → Knows g core.now k live → IsAsked live input l →
         IfOk result (λ taken. Takes g core.now k l taken × Carries g k l taken input) }
     ensures same { IsTrue L.tells → L.bytes clicks.new.tail.log ≡ L.bytes clicks.old.tail.log }
     ensures fault { IfErr result IsReadFault }
-    ensures count { L.faults clicks.old.tail.log ≤ L.faults clicks.new.tail.log }
-    ensures read { IsErrOf result NodeFault.Read → Rose (L.faults clicks.old.tail.log) (L.faults clicks.new.tail.log) }
+    ensures tally { L.faults clicks.new.tail.log ≡ tallied (L.faults clicks.old.tail.log) (is_read_fault result) }
 {
     match input {
         Input::Start => {
@@ -65,8 +63,7 @@ fn look_in_log<L: LogFile>(
         IfOk result (λ taken. Takes g core.now k l taken × Carries g k l taken asked.Own) }
     ensures same { IsTrue L.tells → L.bytes clicks.new.tail.log ≡ L.bytes clicks.old.tail.log }
     ensures fault { IfErr result IsReadFault }
-    ensures count { L.faults clicks.old.tail.log ≤ L.faults clicks.new.tail.log }
-    ensures read { IsErrOf result NodeFault.Read → Rose (L.faults clicks.old.tail.log) (L.faults clicks.new.tail.log) }
+    ensures tally { L.faults clicks.new.tail.log ≡ tallied (L.faults clicks.old.tail.log) (is_read_fault result) }
 {
     if !core.looks() {
         return Ok(DispatchInput::Own {

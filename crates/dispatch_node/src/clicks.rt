@@ -1,6 +1,6 @@
 // The click log, of which a line is read where it is needed.
-ghost use Rattle.std.specs.Prelude.{◌≡◌, ◌≤◌, ◌++◌, ◌∷◌, [], ℕ, List, All, Some, true, IfOk, IfErr, IfSome, OnOk, IsErrOf, IsTrue};
-ghost use Rattle.outside.specs.Faults.{Rose};
+ghost use Rattle.std.specs.Prelude.{◌≡◌, ◌++◌, ◌∷◌, [], ℕ, List, All, Some, true, IfOk, IfErr, IfSome, OnOk, IsTrue};
+ghost use Rattle.outside.specs.Faults.{tallied};
 ghost use Rattle.tail_reader.specs.Next.{IsNext};
 ghost use Rattle.log_records.specs.Line.{IsClick, click_line};
 ghost use Rattle.log_records.specs.declared.records.ClickRec.{ClickRec as Click};
@@ -8,7 +8,7 @@ ghost use Rattle.list_words.specs.Lists.{has};
 ghost use Rattle.turn_defs.specs.Setting.{Setting};
 ghost use Rattle.dispatch_core.specs.Standing.{IsLineAt, click_at, AreClicksAt};
 ghost use Rattle.dispatch_node.specs.Places.{IsLogOf, IsReadable, StartsAt};
-ghost use Rattle.site_node.specs.Faults.{IsReadFault};
+ghost use Rattle.site_node.specs.Faults.{IsReadFault, is_read_fault};
 
 use dispatch_core::TakenLine;
 use log_records::{ClickRec, Why, read_click};
@@ -56,8 +56,7 @@ impl<L: LogFile> Clicks<L> {
         ensures next { IsTrue L.tells → IfOk result (λ next. IsNext (L.bytes self.old.tail.log) place next self.new.tail.window.0) }
         ensures same { IsTrue L.tells → L.bytes self.new.tail.log ≡ L.bytes self.old.tail.log }
         ensures fault { IfErr result IsReadFault }
-        ensures count { L.faults self.old.tail.log ≤ L.faults self.new.tail.log }
-        ensures read { IsErrOf result NodeFault.Read → Rose (L.faults self.old.tail.log) (L.faults self.new.tail.log) }
+        ensures tally { L.faults self.new.tail.log ≡ tallied (L.faults self.old.tail.log) (is_read_fault result) }
     {
         self.go_to(place);
         match self.tail.next() {
@@ -92,8 +91,7 @@ impl<L: LogFile> Clicks<L> {
         ensures spelled { IfOk result (λ line. IfSome line (λ t. IsClick t.click)) }
         ensures same { IsTrue L.tells → L.bytes self.new.tail.log ≡ L.bytes self.old.tail.log }
         ensures fault { IfErr result IsReadFault }
-        ensures count { L.faults self.old.tail.log ≤ L.faults self.new.tail.log }
-        ensures read { IsErrOf result NodeFault.Read → Rose (L.faults self.old.tail.log) (L.faults self.new.tail.log) }
+        ensures tally { L.faults self.new.tail.log ≡ tallied (L.faults self.old.tail.log) (is_read_fault result) }
     {
         match self.next_at(place)? {
             Next::Line { place, end } => self.taken(place, end),
@@ -108,8 +106,7 @@ impl<L: LogFile> Clicks<L> {
         ensures spelled { IfOk result (λ click. IfSome click IsClick) }
         ensures same { IsTrue L.tells → L.bytes self.new.tail.log ≡ L.bytes self.old.tail.log }
         ensures fault { IfErr result IsReadFault }
-        ensures count { L.faults self.old.tail.log ≤ L.faults self.new.tail.log }
-        ensures read { IsErrOf result NodeFault.Read → Rose (L.faults self.old.tail.log) (L.faults self.new.tail.log) }
+        ensures tally { L.faults self.new.tail.log ≡ tallied (L.faults self.old.tail.log) (is_read_fault result) }
     {
         match self.line_at(position)? {
             Some(
@@ -130,8 +127,7 @@ impl<L: LogFile> Clicks<L> {
         ensures spelled { IfOk result (λ clicks. All IsClick clicks.items) }
         ensures same { IsTrue L.tells → L.bytes self.new.tail.log ≡ L.bytes self.old.tail.log }
         ensures fault { IfErr result IsReadFault }
-        ensures count { L.faults self.old.tail.log ≤ L.faults self.new.tail.log }
-        ensures read { IsErrOf result NodeFault.Read → Rose (L.faults self.old.tail.log) (L.faults self.new.tail.log) }
+        ensures tally { L.faults self.new.tail.log ≡ tallied (L.faults self.old.tail.log) (is_read_fault result) }
     {
         let mut clicks = Vec::with_capacity(self.alloc, positions.len())?;
         for position in positions {
@@ -147,8 +143,7 @@ impl<L: LogFile> Clicks<L> {
         ensures spelled { All IsClick clicks.old.items → OnOk result (All IsClick clicks.new.items) }
         ensures same { IsTrue L.tells → L.bytes self.new.tail.log ≡ L.bytes self.old.tail.log }
         ensures fault { IfErr result IsReadFault }
-        ensures count { L.faults self.old.tail.log ≤ L.faults self.new.tail.log }
-        ensures read { IsErrOf result NodeFault.Read → Rose (L.faults self.old.tail.log) (L.faults self.new.tail.log) }
+        ensures tally { L.faults self.new.tail.log ≡ tallied (L.faults self.old.tail.log) (is_read_fault result) }
     {
         let Some(click) = self.click_at(position)? else {
             return Ok(());

@@ -1,16 +1,15 @@
 // The dispatcher over its disks and the click log.
-ghost use Rattle.std.specs.Prelude.{◌≡◌, None, ◌⊎◌, ◌<◌, ◌≤◌, true, false, Option, List, ℕ, is_some, is_err, option_map, IsTrue, IfOk, IfErr, OnOk, OnErr, IsErrOf, ◌+◌, ◌&&◌};
+ghost use Rattle.std.specs.Prelude.{◌≡◌, None, ◌⊎◌, ◌<◌, ◌≤◌, true, false, Option, List, ℕ, is_some, is_err, option_map, IsTrue, IfOk, IfErr, OnOk, OnErr, ◌+◌, ◌&&◌};
 ghost use Rattle.gate_journal.specs.declared.journal.JournalState.TheVariants.{Ready};
 ghost use Rattle.indexmap.specs.IndexSet.{spare};
 ghost use Rattle.outside.specs.Disk.{Throughout};
-ghost use Rattle.outside.specs.Faults.{Rose};
+ghost use Rattle.outside.specs.Faults.{Rose, tallied};
 ghost use Rattle.outside.specs.Plans.{MeetsPlan, AtMost};
 ghost use Rattle.gate_journal.specs.Growth.{Continues};
 ghost use Rattle.offset_journal.specs.Offsets as offsets;
 ghost use Rattle.retry_log.specs.Pending as pending;
 ghost use Rattle.turn_defs.specs.Setting.{Setting};
-ghost use Rattle.turn_defs.specs.Configs.{IsOf};
-ghost use Rattle.site_node.specs.Faults.{IsReadFault, MeetsBoth, OfBoth, of_two};
+ghost use Rattle.site_node.specs.Faults.{IsReadFault, is_read_fault, MeetsBoth, OfBoth, of_two};
 ghost use Rattle.dispatch_core.specs.Changes.{told};
 ghost use Rattle.turn_defs.specs.Dispatcher.{DispatcherKept, DispatcherLive, dispatcher_at_rest, dispatcher_unfinished, dispatcher_wants};
 ghost use Rattle.dispatch_core.specs.Standing.{HasSameNumbers, IsTurn, StandsAs, out_of};
@@ -76,7 +75,7 @@ impl<D: Disk, L: LogFile> DispatchNode<D, L> {
         ensures journals { (result.journals.offset ≡ offset) × (result.journals.retry ≡ retry) }
         ensures log { result.clicks.tail.log ≡ log }
         ensures up { result.in_doubt ≡ None }
-        ensures stands { (g : Setting) → IsOf config g → IsLogOf (L.bytes log) g →
+        ensures stands { (g : Setting) → g.config ≡ config → IsLogOf (L.bytes log) g →
             AreKeptPlaces g (kept_as offset.value.offset retry.value.pending.keys) →
             StandsAt (record {
               site = result.site;
@@ -136,7 +135,7 @@ impl<D: Disk, L: LogFile> DispatchNode<D, L> {
         ensures turn { IsTrue L.tells → (g : Setting) (k : DispatcherKept) (live : Option DispatcherLive) (l : DispatcherLive) →
             IsLogOf (L.bytes self.old.clicks.tail.log) g →
             kept_as self.old.journals.offset.value.offset self.old.journals.retry.value.pending.keys ≡ k →
-            IsOf self.old.core.dealer.config g → Knows g self.old.core k live → IsAsked live input l →
+            g.config ≡ self.old.core.dealer.config → Knows g self.old.core k live → IsAsked live input l →
             IfOk result (λ r. IsTurn g self.new.core k l r.turn (out_of g self.old.core.dealer.site k l input)) }
         ensures takes { IfOk result (λ r. IsTakenBy
             (kept_as self.new.journals.offset.value.offset self.new.journals.retry.value.pending.keys) r.written) }
@@ -155,8 +154,7 @@ impl<D: Disk, L: LogFile> DispatchNode<D, L> {
         ensures counts { (D.faults self.new.journals.offset.journal.disk ≡ D.faults self.old.journals.offset.journal.disk)
             × (D.faults self.new.journals.retry.journal.disk ≡ D.faults self.old.journals.retry.journal.disk) }
         ensures fault { IfErr result IsReadFault }
-        ensures read { IsErrOf result NodeFault.Read → Rose (L.faults self.old.clicks.tail.log) (L.faults self.new.clicks.tail.log) }
-        ensures log_count { L.faults self.old.clicks.tail.log ≤ L.faults self.new.clicks.tail.log }
+        ensures log_tally { L.faults self.new.clicks.tail.log ≡ tallied (L.faults self.old.clicks.tail.log) (is_read_fault result) }
     {
         let taken = look_up(&self.core, &self.journals, &mut self.clicks, input)?;
         let turn = self.core.decide(taken)?;

@@ -1,11 +1,13 @@
 -- The lines of a query log.
-use Rattle.std.specs.Prelude.{ℕ, ◌≡◌, ◌≢◌, ◌+◌, List, [], ◌∷◌, ◌++◌, length, Option, Some, None, IfSome}
+use Rattle.std.specs.Prelude.{ℕ, ◌≡◌, ◌≢◌, ◌+◌, List, [], ◌∷◌, ◌++◌, length, Bool, true, false, Option, Some, None, IfSome, Result, Ok, Err}
 use Rattle.list_words.specs.Bytes.{Lacks}
 use Rattle.event_id.specs.declared.id.EventId.{EventId}
 use Rattle.log_records.specs.declared.records.QueryRec.{QueryRec}
 use Rattle.log_records.specs.Line.{query_line, IsQuery}
 use Rattle.log_records.specs.Log.{line_feed}
 use Rattle.tail_reader.specs.Buffered.{behind}
+use Rattle.event_store.specs.declared.store.LookFault.{LookFault}
+use Rattle.event_store.specs.declared.store.LookFault.TheVariants.{Read, Memory}
 
 -- what a line counts as: its record, or none where it is refused
 abbrev pub ReadsAs : List ℕ → Option QueryRec → Type 0
@@ -33,3 +35,9 @@ ReadsLines log place end_ (read ∷ lines) = (next : ℕ) × ReadsNext log place
 -- these are all lines that end at or before the place
 abbrev pub AreRead : List ℕ → ℕ → List (Option QueryRec) → Type 0
 AreRead log place lines = ReadsLines log 0 place lines
+
+-- the log couldn't be read
+abbrev pub is_read_fault : {T : Type 0} → Result T LookFault → Bool
+is_read_fault (Ok x) = false
+is_read_fault (Err Read) = true
+is_read_fault (Err Memory) = false

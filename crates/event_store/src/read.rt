@@ -1,10 +1,10 @@
 // The next line of the log.
-ghost use Rattle.std.specs.Prelude.{◌≡◌, ◌≢◌, ℕ, Option, IfOk, IfErr, IfSome, IfNone, OnErr, IsErrOf, IsTrue};
+ghost use Rattle.std.specs.Prelude.{◌≡◌, ◌≢◌, ℕ, Option, IfOk, IfErr, IfSome, IfNone, OnErr, IsTrue};
 ghost use Rattle.log_records.specs.declared.records.QueryRec.{QueryRec as Query};
 ghost use Rattle.log_records.specs.Line.{IsQuery};
-ghost use Rattle.outside.specs.Faults.{Counts};
+ghost use Rattle.outside.specs.Faults.{tallied};
 ghost use Rattle.event_store.specs.declared.store.LookFault.TheVariants as fault;
-ghost use Rattle.event_store.specs.Read.{ReadsAs, ReadsNext, TellsId, IsAtEnd};
+ghost use Rattle.event_store.specs.Read.{ReadsAs, ReadsNext, TellsId, IsAtEnd, is_read_fault};
 
 use crate::LookFault;
 use event_id::EventId;
@@ -24,7 +24,7 @@ pub fn next_record<L: LogFile>(
     ensures end_stays { IfOk result (λ line. IfNone line (tail.new.place ≡ tail.old.place)) }
     ensures err { OnErr result (tail.new.place ≡ tail.old.place) }
     ensures same { IsTrue L.tells → L.bytes tail.new.log ≡ L.bytes tail.old.log }
-    ensures count { Counts (L.faults tail.old.log) (L.faults tail.new.log) (IsErrOf result fault.Read) }
+    ensures tally { L.faults tail.new.log ≡ tallied (L.faults tail.old.log) (is_read_fault result) }
 {
     let place = tail.place();
     let next = match tail.next() {
@@ -68,7 +68,7 @@ pub fn read_line(alloc: Global, line: &[u8]) -> Result<Option<QueryRec>, LookFau
 pub fn next_id<L: LogFile>(tail: &mut Tail<L>, front: &[u8]) -> Result<Option<EventId>, LookFault>
     ensures line { IsTrue L.tells → (next : ℕ) (read : Option Query) → ReadsNext (L.bytes tail.old.log) tail.old.place next read → IfOk result (λ told. (tail.new.place ≡ next) × TellsId front.now read told) }
     ensures same { IsTrue L.tells → L.bytes tail.new.log ≡ L.bytes tail.old.log }
-    ensures count { Counts (L.faults tail.old.log) (L.faults tail.new.log) (IsErrOf result fault.Read) }
+    ensures tally { L.faults tail.new.log ≡ tallied (L.faults tail.old.log) (is_read_fault result) }
 {
     let next = match tail.next() {
         Ok(next) => next,

@@ -1,9 +1,8 @@
 // Looks for an id line by line.
-ghost use Rattle.std.specs.Prelude.{◌≡◌, ◌<◌, List, Option, None, MatchOption, IfOk, IsErrOf, IsTrue};
-ghost use Rattle.outside.specs.Faults.{Counts};
+ghost use Rattle.std.specs.Prelude.{◌≡◌, ◌<◌, List, Option, None, MatchOption, IfOk, IsTrue};
+ghost use Rattle.outside.specs.Faults.{tallied};
 ghost use Rattle.log_records.specs.declared.records.QueryRec.{QueryRec as Query};
-ghost use Rattle.event_store.specs.declared.store.LookFault.TheVariants as fault;
-ghost use Rattle.event_store.specs.Read.{AreRead};
+ghost use Rattle.event_store.specs.Read.{AreRead, is_read_fault};
 ghost use Rattle.event_store.specs.Found.{found};
 ghost use Rattle.event_store.specs.Held.{Starts};
 
@@ -23,7 +22,7 @@ pub(crate) fn scan<L: LogFile>(
 ) -> Result<Option<u64>, LookFault>
     ensures found { IsTrue L.tells → (front lines : List (Option Query)) → AreRead (L.bytes tail.old.log) start front → found front id ≡ None → AreRead (L.bytes tail.old.log) end lines → IfOk result (λ at. MatchOption at (found lines id ≡ None) (λ s. (s < end) × Starts (L.bytes tail.old.log) id s)) }
     ensures same { IsTrue L.tells → L.bytes tail.new.log ≡ L.bytes tail.old.log }
-    ensures count { Counts (L.faults tail.old.log) (L.faults tail.new.log) (IsErrOf result fault.Read) }
+    ensures tally { L.faults tail.new.log ≡ tallied (L.faults tail.old.log) (is_read_fault result) }
 {
     let mut text = [0; MAX_TEXT];
     let len = id.text_into(&mut text);

@@ -1,11 +1,10 @@
 // Looks for an id by the places at hand and by the index.
-ghost use Rattle.std.specs.Prelude.{◌≡◌, List, ℕ, Option, Some, MatchOption, IfOk, IfSome, IsErrOf, IsTrue};
-ghost use Rattle.outside.specs.Faults.{Counts};
+ghost use Rattle.std.specs.Prelude.{◌≡◌, List, ℕ, Option, Some, MatchOption, IfOk, IfSome, IsTrue};
+ghost use Rattle.outside.specs.Faults.{tallied};
 ghost use Rattle.log_records.specs.declared.records.QueryRec.{QueryRec as Query};
 ghost use Rattle.log_records.specs.Line.{IsQuery};
-ghost use Rattle.event_store.specs.declared.store.LookFault.TheVariants as fault;
 ghost use Rattle.event_store.specs.Found.{found};
-ghost use Rattle.event_store.specs.Read.{ReadsNext, AreRead};
+ghost use Rattle.event_store.specs.Read.{ReadsNext, AreRead, is_read_fault};
 ghost use Rattle.event_store.specs.Marks.{Mark as Seen, place_of, IsStray};
 ghost use Rattle.event_store.specs.Held.{Knows, IsCache, at_hand};
 
@@ -36,7 +35,7 @@ pub(crate) fn look<L: LogFile>(
     ensures cached { IsTrue L.tells → (lines : List (Option Query)) (marks : List Seen) → Knows (L.bytes tail.old.log) place index.now lines marks → IsCache (at_hand recent.old) marks → IsCache (at_hand recent.new) marks }
     ensures spelled { IfOk result (λ q. IfSome q IsQuery) }
     ensures same { IsTrue L.tells → L.bytes tail.new.log ≡ L.bytes tail.old.log }
-    ensures count { Counts (L.faults tail.old.log) (L.faults tail.new.log) (IsErrOf result fault.Read) }
+    ensures tally { L.faults tail.new.log ≡ tallied (L.faults tail.old.log) (is_read_fault result) }
 {
     if let Some(start) = recent.recall(id) {
         return record_at(alloc, tail, start);
@@ -57,7 +56,7 @@ fn record_at<L: LogFile>(
     ensures line { IsTrue L.tells → (next : ℕ) (read : Option Query) → ReadsNext (L.bytes tail.old.log) place next read → IfOk result (λ q. q ≡ read) }
     ensures spelled { IfOk result (λ q. IfSome q IsQuery) }
     ensures same { IsTrue L.tells → L.bytes tail.new.log ≡ L.bytes tail.old.log }
-    ensures count { Counts (L.faults tail.old.log) (L.faults tail.new.log) (IsErrOf result fault.Read) }
+    ensures tally { L.faults tail.new.log ≡ tallied (L.faults tail.old.log) (is_read_fault result) }
 {
     tail.seek(place);
     match next_record(alloc, tail)? {
@@ -76,7 +75,7 @@ fn find<L: LogFile>(
 ) -> Result<Option<u64>, LookFault>
     ensures found { IsTrue L.tells → (lines : List (Option Query)) (marks : List Seen) → Knows (L.bytes tail.old.log) place index.now lines marks → IfOk result (λ at. at ≡ place_of marks id) }
     ensures same { IsTrue L.tells → L.bytes tail.new.log ≡ L.bytes tail.old.log }
-    ensures count { Counts (L.faults tail.old.log) (L.faults tail.new.log) (IsErrOf result fault.Read) }
+    ensures tally { L.faults tail.new.log ≡ tallied (L.faults tail.old.log) (is_read_fault result) }
 {
     match in_order(tail, index, place, id)? {
         Some(start) => Ok(Some(start)),
@@ -94,7 +93,7 @@ fn in_order<L: LogFile>(
 ) -> Result<Option<u64>, LookFault>
     ensures found { IsTrue L.tells → (lines : List (Option Query)) (marks : List Seen) → Knows (L.bytes tail.old.log) place index.now lines marks → IfOk result (λ at. MatchOption at (IsStray marks id) (λ s. place_of marks id ≡ Some s)) }
     ensures same { IsTrue L.tells → L.bytes tail.new.log ≡ L.bytes tail.old.log }
-    ensures count { Counts (L.faults tail.old.log) (L.faults tail.new.log) (IsErrOf result fault.Read) }
+    ensures tally { L.faults tail.new.log ≡ tallied (L.faults tail.old.log) (is_read_fault result) }
 {
     let Some(segment) = index.segment(id) else {
         return Ok(None);
@@ -113,7 +112,7 @@ fn read_ahead<L: LogFile>(
 ) -> Result<(), LookFault>
     ensures cached { IsTrue L.tells → (front lines : List (Option Query)) (marks : List Seen) → AreRead (L.bytes tail.old.log) start front → Knows (L.bytes tail.old.log) end index.now lines marks → IsCache (at_hand recent.old) marks → IsCache (at_hand recent.new) marks }
     ensures same { IsTrue L.tells → L.bytes tail.new.log ≡ L.bytes tail.old.log }
-    ensures count { Counts (L.faults tail.old.log) (L.faults tail.new.log) (IsErrOf result fault.Read) }
+    ensures tally { L.faults tail.new.log ≡ tallied (L.faults tail.old.log) (is_read_fault result) }
 {
     tail.seek(start);
     'lines: for _ in 0..AHEAD {

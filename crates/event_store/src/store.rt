@@ -58,11 +58,10 @@ pub struct EventStore<L: LogFile> {
 
 impl<L: LogFile> EventStore<L> {
     ghost use Rattle.log_records.specs.declared.records.QueryRec.{QueryRec as Query};
-    ghost use Rattle.std.specs.Prelude.{◌≡◌, ◌≤◌, Option, List, IfOk, IfErr, OnErr, IsErr, IsErrOf, Ok};
-    ghost use Rattle.outside.specs.Faults.{Counts};
+    ghost use Rattle.std.specs.Prelude.{◌≡◌, ◌≤◌, Option, List, IfOk, IfErr, OnErr, Ok};
+    ghost use Rattle.outside.specs.Faults.{tallied};
     ghost use Rattle.event_store.specs.declared.store.Step.TheVariants as step;
-    ghost use Rattle.event_store.specs.declared.store.LookFault.TheVariants as fault;
-    ghost use Rattle.event_store.specs.Read.{ReadsNext, AreRead, IsAtEnd};
+    ghost use Rattle.event_store.specs.Read.{ReadsNext, AreRead, IsAtEnd, is_read_fault};
     ghost use Rattle.event_store.specs.Found.{IsLookup, IsSpelled};
     ghost use Rattle.event_store.specs.Order.{entries_of};
 
@@ -115,7 +114,7 @@ impl<L: LogFile> EventStore<L> {
         ensures end_stays { result ≡ Ok step.End → self.new.tail.place ≡ self.old.tail.place }
         ensures err { OnErr result (self.new.tail.place ≡ self.old.tail.place) }
         ensures same { IsTrue L.tells → L.bytes self.new.tail.log ≡ L.bytes self.old.tail.log }
-        ensures count { Counts (L.faults self.old.tail.log) (L.faults self.new.tail.log) (IsErrOf result fault.Read) }
+        ensures tally { L.faults self.new.tail.log ≡ tallied (L.faults self.old.tail.log) (is_read_fault result) }
     {
         let place = self.tail.place();
         let line = next_record(self.alloc, &mut self.tail)?;
@@ -142,7 +141,7 @@ impl<L: LogFile> EventStore<L> {
         ensures spelled { IfOk result IsSpelled }
         ensures place { self.new.tail.place ≡ self.old.tail.place }
         ensures same { IsTrue L.tells → L.bytes self.new.tail.log ≡ L.bytes self.old.tail.log }
-        ensures count { Counts (L.faults self.old.tail.log) (L.faults self.new.tail.log) (IsErrOf result fault.Read) }
+        ensures tally { L.faults self.new.tail.log ≡ tallied (L.faults self.old.tail.log) (is_read_fault result) }
     {
         let read = self.read;
         if self.index.is_next(id) {

@@ -18,8 +18,6 @@ use Rattle.turn_defs.specs.Turns.{Note, Epoch, Out, land}
 use Rattle.site_node.specs.Bytes.{record_of, AreSpelled, Reads, IsJunk}
 use Rattle.site_node.proofs.Turns.{ends_done, ends_idle, none_of}
 use Rattle.site_node.specs.States.{State, Leads, row, written, closes, opens}
-use Rattle.turn_defs.specs.declared.config.Config.{Config}
-use Rattle.turn_defs.specs.Configs.{IsOf}
 use Rattle.turn_defs.specs.Joiner.{JoinerKept, JoinerLive, Flight, land_joiner, in_flight, is_for, looks, joins, replied, joiner_gets}
 use Rattle.joiner_core.specs.Standing.{Serves, Stands, IsSame, Answers, note_of}
 use Rattle.joiner_core.specs.declared.turn.Turn.{Turn}
@@ -43,7 +41,7 @@ quiet None p epoch_image pairs_image s none by = by
 quiet (Some d) p epoch_image pairs_image s none by = absurd (cc none)
 
 -- it stands at each state of this number and setting, these records and this knowledge
-pub stands_none : (p : Parts) (epoch_image pairs_image : List ℕ → Type 0) (s : JoinerState) → p.in_doubt ≡ None → IsOf p.config s.node.setting → s.number ≡ p.number → Serves p.core s.node.setting s.number → HasRead p.log p.place s.node.setting.queries
+pub stands_none : (p : Parts) (epoch_image pairs_image : List ℕ → Type 0) (s : JoinerState) → p.in_doubt ≡ None → s.node.setting.config ≡ p.config → s.number ≡ p.number → Serves p.core s.node.setting s.number → HasRead p.log p.place s.node.setting.queries
     → Holds p.epoch p.written epoch_image pairs_image s.node.kept → Knows p.up p.core s.node.setting s.number s.node.kept s.node.live → StandsAt p epoch_image pairs_image s
 stands_none p epoch_image pairs_image s none of_g number serves reads holds knows = record {
   setting = of_g;
@@ -73,7 +71,7 @@ idles p epoch_image pairs_image s t n b ps sent none at led junk empty le =
 -- a turn that is done
 pub ends : (p : Parts) (epoch_image pairs_image : List ℕ → Type 0) (core : JoinerCore) (s t : JoinerState) (n : ℕ) (b : Bytes) (i : Input) (ready : ReadyTurn) (said : Option (List ℕ)) (ps : List (ℕ × List ℕ)) (sent : ℕ)
     → LeadsTo s (Begin n b) t → Reads s.node.setting b i → (row : IsRow core s.node.setting s.number s.node.kept (row_at s i) ready) → said ≡ option_map bytes_of row.note → ps ≡ ready.packets → sent ≤ length ps
-    → p.in_doubt ≡ None → IsOf p.config s.node.setting → s.number ≡ p.number → HasRead p.log p.place s.node.setting.queries
+    → p.in_doubt ≡ None → s.node.setting.config ≡ p.config → s.number ≡ p.number → HasRead p.log p.place s.node.setting.queries
     → Holds p.epoch p.written epoch_image pairs_image (with_note row.note s.node.kept) → Knows p.up p.core s.node.setting s.number (with_note row.note s.node.kept) (Some (row_at s i).live) → Serves p.core s.node.setting s.number
     → (u : JoinerState) × LeadsTo t (End n said ps sent) u × StandsAt p epoch_image pairs_image u
 ends p epoch_image pairs_image core s t n b i ready said ps sent led reads row said_is ps_is le none of_g number read holds knows serves =
@@ -103,7 +101,7 @@ by_doubt (Some d) (Some x) p epoch_image pairs_image s b i reads noted are image
 
 -- a turn that was stopped is open still, and its note may have landed
 pub stays_open : (p : Parts) (epoch_image pairs_image : List ℕ → Type 0) (s t : JoinerState) (n : ℕ) (b : Bytes) (i : Input) (o : Option JoinerNote) → LeadsTo s (Begin n b) t → Reads s.node.setting b i → option_map note_of o ≡ (row_at s i).note
-    → IsOf p.config s.node.setting → s.number ≡ p.number → Serves p.core s.node.setting s.number → HasRead p.log p.place s.node.setting.queries → AreInDoubt p.in_doubt o s.node.kept → MayHave s.node.kept (with_note o s.node.kept) epoch_image pairs_image
+    → s.node.setting.config ≡ p.config → s.number ≡ p.number → Serves p.core s.node.setting s.number → HasRead p.log p.place s.node.setting.queries → AreInDoubt p.in_doubt o s.node.kept → MayHave s.node.kept (with_note o s.node.kept) epoch_image pairs_image
     → StandsAt p epoch_image pairs_image t
 stays_open p epoch_image pairs_image s t n b i o led reads noted of_g number serves read are images =
     subst (λ (x : JoinerState). StandsAt p epoch_image pairs_image x) (led_to s t n b led)
@@ -129,9 +127,6 @@ serves_same old new g n same serves = record { node = same.node ∙ serves.node;
 pub serves_of : (up : Bool) (core : JoinerCore) (g : Setting) (n : ℕ) (k : JoinerKept) (l : JoinerLive) → Knows up core g n k (Some l) → Serves core g n
 serves_of true core g n k l knows = knows.serves
 serves_of false core g n k l knows = absurd knows
-
-pub config_same : (old new : Config) (g : Setting) → new ≡ old → IsOf old g → IsOf new g
-config_same old new g e of_g = subst (λ (r : Config). IsOf r g) (sym e) of_g
 
 -- room was made
 pub holds_within : (epoch epoch' written written' : ℕ) (ei pi ei' pi' : List ℕ → Type 0) (k : JoinerKept) → epoch' ≡ epoch → written' ≡ written → ((c : List ℕ) → ei' c → ei c) → ((c : List ℕ) → pi' c → pi c) → Holds epoch written ei pi k → Holds epoch' written' ei' pi' k
@@ -233,7 +228,7 @@ if_err (Err e) f P is p = subst P (sym is) p
 -- the joiner is down over what was found
 pub restarts : (d : Option Doubt) (p : Parts) (old_epoch old_pairs : List ℕ → Type 0) (q : Parts) (epoch_image pairs_image : List ℕ → Type 0) (s : JoinerState) (n : ℕ) (landed : Option (List ℕ)) → StandsBy d p old_epoch old_pairs s → is_some d ≡ true
     → ((note : JoinerNote) → AreInDoubt d (Some note) s.node.kept → MayHave s.node.kept (with_note (Some note) s.node.kept) old_epoch old_pairs → IsFound landed note s.node.kept q.epoch q.written epoch_image pairs_image)
-    → q.in_doubt ≡ None → q.up ≡ false → IsOf q.config s.node.setting → s.number ≡ q.number → Serves q.core s.node.setting s.number → HasRead q.log q.place s.node.setting.queries
+    → q.in_doubt ≡ None → q.up ≡ false → s.node.setting.config ≡ q.config → s.number ≡ q.number → Serves q.core s.node.setting s.number → HasRead q.log q.place s.node.setting.queries
     → (t : JoinerState) × LeadsTo s (Stop n landed) t × StandsAt q epoch_image pairs_image t
 restarts None p oe op q ei pi s n landed by waits found none down of_g number serves reads = absurd (cc waits)
 restarts (Some d) p oe op q ei pi s n landed by waits found none down of_g number serves reads =

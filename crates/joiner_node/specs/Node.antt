@@ -12,7 +12,6 @@ use Rattle.turn_defs.specs.Turns.{Out}
 use Rattle.site_node.specs.Bytes.{AreSpelled, Reads}
 use Rattle.site_node.specs.States.{State, Leads, MayHold, row, state_phase}
 use Rattle.turn_defs.specs.declared.config.Config.{Config}
-use Rattle.turn_defs.specs.Configs.{IsOf}
 use Rattle.turn_defs.specs.Joiner.{JoinerKept, JoinerLive}
 use Rattle.joiner_core.specs.Standing.{Serves, Leads as CoreLeads, note_of}
 use Rattle.joiner_core.specs.declared.turn.JoinerNote.{JoinerNote}
@@ -80,7 +79,7 @@ StandsBy (Some d) p epoch_image pairs_image s = IsOpenAt d epoch_image pairs_ima
 
 -- the node, of these parts, stands at the state
 pub record StandsAt (p : Parts) (epoch_image pairs_image : List ℕ → Type 0) (s : JoinerState) : Type 0 where
-  pub setting : IsOf p.config s.node.setting
+  pub setting : s.node.setting.config ≡ p.config
   pub number_is : s.number ≡ p.number
   pub serves : Serves p.core s.node.setting s.number
   pub reads : HasRead p.log p.place s.node.setting.queries

@@ -23,7 +23,7 @@ pub(crate) struct Joining<L: LogFile> {
 
 impl<L: LogFile> Joining<L> {
     ghost use Rattle.std.specs.Prelude.{◌≡◌, ◌≤◌, ◌<◌, ℕ, true, false, Option, List, IsTrue, IfOk, IfErr, OnOk, OnErr, IsErrOf};
-    ghost use Rattle.outside.specs.Faults.{Rose};
+    ghost use Rattle.outside.specs.Faults.{tallied};
     ghost use Rattle.log_records.specs.declared.records.QueryRec.{QueryRec as Query};
     ghost use Rattle.log_records.specs.Check.{IsQueryLog};
     ghost use Rattle.turn_defs.specs.declared.node.Input.TheVariants.{Start};
@@ -32,7 +32,7 @@ impl<L: LogFile> Joining<L> {
     ghost use Rattle.turn_defs.specs.Setting.{Setting, site_of_joiner};
     ghost use Rattle.turn_defs.specs.Turns.{land};
     ghost use Rattle.site_node.specs.Bytes.{IsInput};
-    ghost use Rattle.site_node.specs.Faults.{IsReadFault};
+    ghost use Rattle.site_node.specs.Faults.{IsReadFault, is_read_fault};
     ghost use Rattle.site_node.specs.States.{Fits as MayGet};
     ghost use Rattle.turn_defs.specs.Joiner.{JoinerKept, JoinerLive};
     ghost use Rattle.joiner_core.specs.Spelled.{IsTaken, IsTold, IsSpelled};
@@ -92,8 +92,7 @@ impl<L: LogFile> Joining<L> {
         ensures spent { (last : ℕ) → IsErrOf result (NodeFault.Spent last) → (input ≡ Start) × (epoch ≡ LAST_EPOCH) × (last ≡ epoch) }
         ensures spends { input ≡ Start → epoch ≡ LAST_EPOCH → OnOk result ⊥ }
         ensures kind { IfErr result IsOfDecision }
-        ensures fault { IsErrOf result NodeFault.Read → Rose (L.faults self.old.queries.store.tail.log) (L.faults self.new.queries.store.tail.log) }
-        ensures count { L.faults self.old.queries.store.tail.log ≤ L.faults self.new.queries.store.tail.log }
+        ensures tally { L.faults self.new.queries.store.tail.log ≡ tallied (L.faults self.old.queries.store.tail.log) (is_read_fault result) }
     {
         let asked = self.asked(epoch, input)?;
         match self.core.decide(asked) {
@@ -137,8 +136,7 @@ impl<L: LogFile> Joining<L> {
         ensures spent { (last : ℕ) → IsErrOf result (NodeFault.Spent last) → (input ≡ Start) × (epoch ≡ LAST_EPOCH) × (last ≡ epoch) }
         ensures spends { input ≡ Start → epoch ≡ LAST_EPOCH → OnOk result ⊥ }
         ensures kind { IfErr result IsOfDecision }
-        ensures fault { IsErrOf result NodeFault.Read → Rose (L.faults self.old.queries.store.tail.log) (L.faults self.new.queries.store.tail.log) }
-        ensures count { L.faults self.old.queries.store.tail.log ≤ L.faults self.new.queries.store.tail.log }
+        ensures tally { L.faults self.new.queries.store.tail.log ≡ tallied (L.faults self.old.queries.store.tail.log) (is_read_fault result) }
     {
         match input {
             Input::Start => start(epoch),
@@ -160,8 +158,7 @@ impl<L: LogFile> Joining<L> {
             HasRead (L.bytes self.old.queries.store.tail.log) self.old.queries.store.tail.place g.queries →
             Stands self.old.core g n k l → Carries g k l asked (Deliver from packet)) }
         ensures kind { IfErr result IsReadFault }
-        ensures fault { IsErrOf result NodeFault.Read → Rose (L.faults self.old.queries.store.tail.log) (L.faults self.new.queries.store.tail.log) }
-        ensures count { L.faults self.old.queries.store.tail.log ≤ L.faults self.new.queries.store.tail.log }
+        ensures tally { L.faults self.new.queries.store.tail.log ≡ tallied (L.faults self.old.queries.store.tail.log) (is_read_fault result) }
     {
         match packet {
             Packet::Join { position, click } => {
@@ -186,8 +183,7 @@ impl<L: LogFile> Joining<L> {
             HasRead (L.bytes self.old.queries.store.tail.log) self.old.queries.store.tail.place g.queries →
             Stands self.old.core g n k l → needs_look_up l click.now.id ≡ true → Tells g click.now looked) }
         ensures kind { IfErr result IsReadFault }
-        ensures fault { IsErrOf result NodeFault.Read → Rose (L.faults self.old.queries.store.tail.log) (L.faults self.new.queries.store.tail.log) }
-        ensures count { L.faults self.old.queries.store.tail.log ≤ L.faults self.new.queries.store.tail.log }
+        ensures tally { L.faults self.new.queries.store.tail.log ≡ tallied (L.faults self.old.queries.store.tail.log) (is_read_fault result) }
     {
         if !self.core.needs_look_up(click.id) {
             return Ok(Looked::Lines(0));

@@ -41,7 +41,7 @@ struct ReadyTurn {
 impl<L: LogFile, D: Disk> JoinerNode<L, D> {
     ghost use Rattle.std.specs.Prelude.{◌≡◌, ◌+◌, ◌*◌, ◌<◌, ◌≤◌, ℕ, List, Option, None, Some, true, false, is_some, IsTrue, IfOk, IfErr, OnOk, OnErr, IsErrOf, option_map};
     ghost use Rattle.outside.specs.Disk.{Throughout};
-    ghost use Rattle.outside.specs.Faults.{Rose};
+    ghost use Rattle.outside.specs.Faults.{Rose, tallied};
     ghost use Rattle.outside.specs.Plans.{MeetsPlan};
     ghost use Rattle.gate_journal.specs.declared.journal.JournalState.TheVariants.{Ready};
     ghost use Rattle.gate_journal.specs.Growth.{Continues};
@@ -50,8 +50,7 @@ impl<L: LogFile, D: Disk> JoinerNode<L, D> {
     ghost use Rattle.turn_defs.specs.declared.node.Input.TheVariants.{Start};
     ghost use Rattle.turn_defs.specs.Setting.{Setting};
     ghost use Rattle.site_node.specs.Bytes.{IsInput};
-    ghost use Rattle.turn_defs.specs.Configs.{IsOf};
-    ghost use Rattle.site_node.specs.Faults.{was_stopped, MeetsBoth};
+    ghost use Rattle.site_node.specs.Faults.{was_stopped, is_read_fault, MeetsBoth};
     ghost use Rattle.site_node.specs.States.{Fits as MayGet};
     ghost use Rattle.turn_defs.specs.Joiner.{JoinerKept, JoinerLive};
     ghost use Rattle.joiner_core.specs.Standing.{Serves, IsSame, Fits, Leads};
@@ -80,7 +79,7 @@ impl<L: LogFile, D: Disk> JoinerNode<L, D> {
         ensures disks { IfOk result (λ node. (node.disks.epochs ≡ epochs) × (node.disks.log ≡ log.journal)) }
         ensures log { IfOk result (λ node. node.joining.queries.store.tail.log ≡ queries) }
         ensures up { IfOk result (λ node. node.disks.in_doubt ≡ None) }
-        ensures stands { IsTrue D.tells → (g : Setting) (k : JoinerKept) → IsOf config g → IsQueryLog (L.bytes queries) g.queries → epochs.value.epoch ≡ k.epoch → log.value.pairs.items ≡ k.pairs →
+        ensures stands { IsTrue D.tells → (g : Setting) (k : JoinerKept) → g.config ≡ config → IsQueryLog (L.bytes queries) g.queries → epochs.value.epoch ≡ k.epoch → log.value.pairs.items ≡ k.pairs →
             IfOk result (λ node. StandsAt (record { number = node.number; config = node.config; core = node.joining.core; up = node.joining.up; log = L.bytes node.joining.queries.store.tail.log; place = node.joining.queries.store.tail.place; in_doubt = node.disks.in_doubt; epoch = node.disks.epochs.value.epoch; written = node.disks.written }) (D.image node.disks.epochs.journal.disk) (D.image node.disks.log.disk) (down_over node.number g k)) }
         ensures err { IfErr result (λ e. (e.1 ≡ epochs) × (e.2 ≡ log) × (e.3 ≡ queries)) }
     {
@@ -136,11 +135,10 @@ impl<L: LogFile, D: Disk> JoinerNode<L, D> {
         ensures spent { (last : ℕ) → IsErrOf result (NodeFault.Spent last) → (input ≡ Start) × (self.old.disks.epochs.value.epoch ≡ LAST_EPOCH) × (last ≡ self.old.disks.epochs.value.epoch) }
         ensures spends { input ≡ Start → self.old.disks.epochs.value.epoch ≡ LAST_EPOCH → OnOk result ⊥ }
         ensures kind { IfErr result IsOfDecision }
-        ensures fault { IsErrOf result NodeFault.Read → Rose (L.faults self.old.joining.queries.store.tail.log) (L.faults self.new.joining.queries.store.tail.log) }
+        ensures log_tally { L.faults self.new.joining.queries.store.tail.log ≡ tallied (L.faults self.old.joining.queries.store.tail.log) (is_read_fault result) }
         ensures plan { IsTrue D.tells → MeetsPlan D.stops D.made D.faults 0 false self.old.disks.epochs.journal.disk self.new.disks.epochs.journal.disk × MeetsPlan D.stops D.made D.faults 0 false self.old.disks.log.disk self.new.disks.log.disk }
         ensures epoch_count { D.faults self.new.disks.epochs.journal.disk ≡ D.faults self.old.disks.epochs.journal.disk }
         ensures pair_count { D.faults self.new.disks.log.disk ≡ D.faults self.old.disks.log.disk }
-        ensures log_count { L.faults self.old.joining.queries.store.tail.log ≤ L.faults self.new.joining.queries.store.tail.log }
     {
         let kept = self.disks.epoch();
         let mut turn = self.joining.decide(kept, input)?;
@@ -196,7 +194,7 @@ fn joiner_number(replicas: u8, joiners: u8, site: u8, joiner: u8) -> u16
     requires site { site < 2 }
     requires joiner { joiner < joiners }
     ensures number { result ≡ 4 + replicas + site * joiners + joiner }
-    ensures site { (g : Setting) → g.replicas ≡ replicas → g.joiners ≡ joiners → site ≡ site_of_joiner g result }
+    ensures site { (g : Setting) → g.config.replicas ≡ replicas → g.config.joiners ≡ joiners → site ≡ site_of_joiner g result }
 {
     let first = 4 + u16::from(replicas);
     first + u16::from(site) * u16::from(joiners) + u16::from(joiner)

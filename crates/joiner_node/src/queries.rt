@@ -17,9 +17,9 @@ pub(crate) struct Queries<L: LogFile> {
 }
 
 impl<L: LogFile> Queries<L> {
-    ghost use Rattle.std.specs.Prelude.{◌≡◌, List, IfOk, IfErr, IfSome, IfNone, IsErrOf, IsTrue};
-    ghost use Rattle.outside.specs.Faults.{Counts};
-    ghost use Rattle.event_store.specs.declared.store.LookFault.TheVariants as fault;
+    ghost use Rattle.std.specs.Prelude.{◌≡◌, List, IfOk, IfErr, IfSome, IfNone, IsTrue};
+    ghost use Rattle.outside.specs.Faults.{tallied};
+    ghost use Rattle.event_store.specs.Read.{is_read_fault};
     ghost use Rattle.log_records.specs.declared.records.QueryRec.{QueryRec as Query};
     ghost use Rattle.log_records.specs.Check.{IsQueryLog};
     ghost use Rattle.joiner_core.specs.Spelled.{IsTold};
@@ -50,7 +50,7 @@ impl<L: LogFile> Queries<L> {
         ensures reads { IsTrue L.tells → (qs : List Query) → HasRead (L.bytes self.old.store.tail.log) self.old.store.tail.place qs → HasRead (L.bytes self.new.store.tail.log) self.new.store.tail.place qs }
         ensures found { IsTrue L.tells → (qs : List Query) → HasRead (L.bytes self.old.store.tail.log) self.old.store.tail.place qs → IfOk result (IsFirst qs id) }
         ensures spelled { IfOk result IsTold }
-        ensures count { Counts (L.faults self.old.store.tail.log) (L.faults self.new.store.tail.log) (IsErrOf result fault.Read) }
+        ensures tally { L.faults self.new.store.tail.log ≡ tallied (L.faults self.old.store.tail.log) (is_read_fault result) }
     {
         'lines: for _ in 0..u64::MAX {
             match self.step(id) {
@@ -67,7 +67,7 @@ impl<L: LogFile> Queries<L> {
         ensures reads { IsTrue L.tells → (qs : List Query) → HasRead (L.bytes self.old.store.tail.log) self.old.store.tail.place qs → HasRead (L.bytes self.new.store.tail.log) self.new.store.tail.place qs }
         ensures found { IsTrue L.tells → (qs : List Query) → HasRead (L.bytes self.old.store.tail.log) self.old.store.tail.place qs → IfOk result (λ looked. IfSome looked (IsFirst qs id)) }
         ensures spelled { IfOk result (λ looked. IfSome looked IsTold) }
-        ensures count { Counts (L.faults self.old.store.tail.log) (L.faults self.new.store.tail.log) (IsErrOf result fault.Read) }
+        ensures tally { L.faults self.new.store.tail.log ≡ tallied (L.faults self.old.store.tail.log) (is_read_fault result) }
     {
         let read = match self.store.lookup(id) {
             Ok(Lookup::Found(query)) => return Ok(Some(Looked::Found(query))),

@@ -50,13 +50,12 @@ impl LogFile for MemLog {
         ensures bytes { IfOk result (λ n. (n ≤ length (drop at self.old.bytes.items)) × (take n buf.new ≡ take n (drop at self.old.bytes.items))) }
         ensures end { 0 < length buf.old → IfOk result (λ n. (n ≡ 0) ↔ (length self.old.bytes.items ≤ at)) }
         ensures same { self.new.bytes.items ≡ self.old.bytes.items }
-        ensures count { Counts self.old.reads.faults self.new.reads.faults (IsErr result) }
+        ensures tally { self.new.reads.faults ≡ tallied self.old.reads.faults (is_err result) }
 
-        // It fails exactly where this read is listed, and nothing else raises the count.
+        // It fails exactly where this read is listed.
         ensures listed { IsErr result ↔ Contains self.old.reads.listed.items self.old.reads.made }
         ensures list { self.new.reads.listed ≡ self.old.reads.listed }
         ensures made { self.new.reads.made ≡ added self.old.reads.made 1 }
-        ensures tally { self.new.reads.faults ≡ tallied self.old.reads.faults (is_err result) }
     {
         if self.reads.fails() {
             return Err(ReadFault);

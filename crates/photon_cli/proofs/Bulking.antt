@@ -36,11 +36,8 @@ module _ (told : List ℕ → Option (List ℕ)) (v : BulkValues) (few : v.count
       record {
         queries = queries_same (logs.query_log v.seed v.count) g.queries (logs.queries v.seed v.count) (under (told (codes "queries")) (logs.query_log v.seed v.count) (λ l. IsQueryLog l g.queries) query_log asked.setting.queries_are).0 (of_queries v.seed v.count few);
         clicks = log.lines.lines ∙ ap (placed 0) clicks;
-        horizon = asked.setting.numbers.horizon;
-        joiners = asked.setting.numbers.joiners;
         table = asked.table;
-        batch = asked.setting.numbers.batch;
-        replicas = asked.setting.numbers.replicas;
+        config = asked.setting.numbers;
       }
 
   pub made_valid : ((seed n : ℕ) → n ≤ 2 ^ 32 → length (logs.query_log seed n) ≤ 37 * n) → ((seed n : ℕ) → n ≤ 2 ^ 32 → length (logs.click_log seed n) ≤ 62 * n) → AreValid told (codes "queries") (codes "clicks")
@@ -73,7 +70,7 @@ module _ (told : List ℕ → Option (List ℕ)) (v : BulkValues) (few : v.count
   lines_made (Some log) lines g asked run =
       let m = made g asked in
       let clicks : map (λ (l : ClickLine). l.click) g.clicks ≡ logs.clicks v.seed v.count = ap (map (λ (l : ClickLine). l.click)) m.clicks ∙ clicks_back 0 (logs.clicks v.seed v.count) in
-      run.whole refl ∙ (λ k. map (line_of (m.queries k) (m.horizon k)) (distinct (clicks k)))
+      run.whole refl ∙ (λ k. map (line_of (m.queries k) (m.config k).horizon) (distinct (clicks k)))
 
   pub bulk_totals : (plan : PlanView) (ran : Option RunLog) (lines : List ReportLine) → plan ≡ bulk_plan → ((seed n : ℕ) → n ≤ 100000 → totals (logs.lines seed n) ≡ logs.totals_made n) → Drills told (values_of v) plan ran lines
       → totals lines ≡ logs.totals_made v.count

@@ -93,7 +93,7 @@ one_in (Some bytes) a b h k = one_outcome bytes a b h k
 
 -- ---- what is known of a run's history
 
-pub drilled : (o : Option RunLog) (g : Setting) (plan : PlanView) (joiners : ℕ) (lines : List ReportLine) → g.joiners ≡ joiners → IsSomeAnd o (λ l. RanAfresh g l.air.history lines) → IfSome o (IsHeardOf plan joiners)
+pub drilled : (o : Option RunLog) (g : Setting) (plan : PlanView) (joiners : ℕ) (lines : List ReportLine) → g.config.joiners ≡ joiners → IsSomeAnd o (λ l. RanAfresh g l.air.history lines) → IfSome o (IsHeardOf plan joiners)
     → IfSome o (λ l. StopsAsPlanned (StopsAtMost joiners plan.stops) g l.air.history) → IsSomeAnd o (IsDrilled g plan lines)
 drilled None g plan joiners lines same ran heard few = absurd ran
 drilled (Some log) g plan joiners lines same ran heard few = record {

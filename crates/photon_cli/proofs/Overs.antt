@@ -37,6 +37,6 @@ module _ (g : Setting) (before : Images) (read faulted : Type 0) (ran : Option R
     keeps = over.keeps;
     idle = over.idle;
     passed = over.passed;
-    caused = IfErr-weaker r (IsCauseOf g before files faulted) (IsCauseOf g before read faulted) (λ f. later_caused before g.replicas (Some (asked_of g)) (TellsPlaces g) faulted (IsLate g before faulted f) files read more f) over.caused;
+    caused = IfErr-weaker r (IsCauseOf g before files faulted) (IsCauseOf g before read faulted) (λ f. later_caused before g.config.replicas (Some (asked_of g)) (TellsPlaces g) faulted (IsLate g before faulted f) files read more f) over.caused;
     welcome = over.welcome;
   }

@@ -115,7 +115,7 @@ module _ (before : Images) (faulted : Type 0) (row : ShardRow) where
   complete_row h has fair below still written = grind arith
 
   -- of a sound store no disk is told as damaged
-  pub fair_row : ReadTopologyIsKept → TopologyFits → (g : Setting) → g.replicas ≡ REPLICAS → IsSoundStore g before → LeavesSomething g before → (f : RunFault) → Has f → status_of f ≢ 7
+  pub fair_row : ReadTopologyIsKept → TopologyFits → (g : Setting) → g.config.replicas ≡ REPLICAS → IsSoundStore g before → LeavesSomething g before → (f : RunFault) → Has f → status_of f ≢ 7
   fair_row read fits g replicas sound some f has seven =
       let d = damaged_of f seven in
       let here = subst Has d.2 has in
@@ -152,7 +152,7 @@ module _ (text : Text) (disks : Bool) (before after : Images) (row : ShardRow) (
 module _ (sinks disks : Bool) (output errors : Type 0) (old new err_old err_new : List ℕ) (text : Text) (same : Type 0) (before after : Images) (faulted : Type 0) where
   pub ends : (f : RunFault) → IsNamedInReshard text f → (IsTrue disks → (row : ShardRow) → IsRowOf text row → IsCauseFor before faulted row f) → ((HasRow text → ⊥) → same × ((status_of f ≡ 2) ⊎ (status_of f ≡ 8)))
       → ((at : StorePlace) → f ≡ fault.Store at → faulted) → (f ≡ fault.Write → output) → (IsTrue sinks → IsTrue disks → f ≡ fault.Write → Adds text before after (λ line. TookPrefix old line new))
-      → (IsTrue sinks → (errors → ⊥) → err_new ≡ err_old ++ message f) → (IsTrue disks → (g : Setting) → g.replicas ≡ REPLICAS → IsSoundStore g before → LeavesSomething g before → status_of f ≢ 7) → (IsTrue disks → LeftAt text before after (status_of f))
+      → (IsTrue sinks → (errors → ⊥) → err_new ≡ err_old ++ message f) → (IsTrue disks → (g : Setting) → g.config.replicas ≡ REPLICAS → IsSoundStore g before → LeavesSomething g before → status_of f ≢ 7) → (IsTrue disks → LeftAt text before after (status_of f))
       → ReshardEnds sinks output errors old new err_old err_new (status_of f) text same disks before after faulted
   ends f named causes bad rose wrote prefix tells fair left = record {
     added = λ s d zero. absurd (no_zero f zero);

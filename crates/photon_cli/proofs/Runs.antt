@@ -2,7 +2,7 @@
 use Rattle.std.proofs.Common.{arith}
 use Rattle.std.specs.Prelude.{Ok, ⊤}
 use Rattle.std.proofs.Common.{◌≡◌, ℕ, suc, ◌+◌, List, [], ◌∷◌, map, Option, Some, None, refl, sym, ap, ◌∙◌, length, subst}
-use Rattle.photon_cli.proofs.Words.{REPLICAS, Config, IfSome, IsSomeAnd, PlanView, AreLinesBy, Images, IsSoundStore, IsTable, Joins, JoinsAfresh, LeavesNothing, RanAfresh, ReportLine, RestJoins, RestJoinsAfresh, RestLeft, RestRanAfresh, RunLeft, RunLog, RunOutcome, RunsOver, ShardRow, distinct, line_of, only_table, EventId, QueryRec, ClickRec, IsQueryLog, IsClickLog, click_line, ClickLine, placed, end_from, lines_follow, Setting, Checked, IsLogOf, IsSettingOf, Values, EndsAt, AreLogs, AreValid, HasIds, HaveIds, IsAsked, IsHeardOf, IsHistory, config_of, IsTextOf}
+use Rattle.photon_cli.proofs.Words.{Config, IfSome, IsSomeAnd, PlanView, AreLinesBy, Images, IsSoundStore, IsTable, Joins, JoinsAfresh, LeavesNothing, RanAfresh, ReportLine, RestJoins, RestJoinsAfresh, RestLeft, RestRanAfresh, RunLeft, RunLog, RunOutcome, RunsOver, ShardRow, distinct, line_of, only_table, EventId, QueryRec, ClickRec, IsQueryLog, IsClickLog, click_line, ClickLine, placed, end_from, lines_follow, Setting, Checked, IsLogOf, IsSettingOf, Values, EndsAt, AreLogs, AreValid, HasIds, HaveIds, IsAsked, IsHeardOf, IsHistory, config_of, IsTextOf}
 use Rattle.photon_cli.proofs.Refusals.{within}
 
 pub taken : {A : Type 0} (o : Option A) (P : A → Type 0) → IsSomeAnd o P → (x : A) × P x
@@ -15,11 +15,11 @@ none_named None = tt
 none_named (Some l) = tt
 
 -- what is left of a run, and whatever is known of it where it has begun
-pub if_history : (o : Option RunLog) (g : Setting) (before after : Images) (plan : PlanView) (joiners : ℕ) → g.joiners ≡ joiners → IfSome o (RunLeft g before after) → IfSome o (IsHeardOf plan joiners) → IfSome o (IsHistory g before after plan)
+pub if_history : (o : Option RunLog) (g : Setting) (before after : Images) (plan : PlanView) (joiners : ℕ) → g.config.joiners ≡ joiners → IfSome o (RunLeft g before after) → IfSome o (IsHeardOf plan joiners) → IfSome o (IsHistory g before after plan)
 if_history None g before after plan joiners same left heard = tt
 if_history (Some log) g before after plan joiners same left heard = record { left = left; heard = subst (λ j. IsHeardOf plan j log) (sym same) heard }
 
-pub history : (o : Option RunLog) (g : Setting) (before after : Images) (plan : PlanView) (joiners : ℕ) → g.joiners ≡ joiners → IsSomeAnd o (RunLeft g before after) → IfSome o (IsHeardOf plan joiners) → IsSomeAnd o (IsHistory g before after plan)
+pub history : (o : Option RunLog) (g : Setting) (before after : Images) (plan : PlanView) (joiners : ℕ) → g.config.joiners ≡ joiners → IsSomeAnd o (RunLeft g before after) → IfSome o (IsHeardOf plan joiners) → IsSomeAnd o (IsHistory g before after plan)
 history None g before after plan joiners same left heard = absurd left
 history (Some log) g before after plan joiners same left heard = record { left = left; heard = subst (λ j. IsHeardOf plan j log) (sym same) heard }
 
@@ -58,7 +58,7 @@ placed_ids ids cs are = ap (map (λ (c : ClickRec). c.id)) (clicks_back 0 cs) �
 
 -- the setting of these values and records
 abbrev pub setting_of : Values → List ShardRow → List QueryRec → List ClickRec → Setting
-setting_of v table qs cs = record { queries = qs; clicks = placed 0 cs; horizon = v.horizon; joiners = v.nodes.joiners; table = table; batch = v.nodes.batch; replicas = REPLICAS }
+setting_of v table qs cs = record { queries = qs; clicks = placed 0 cs; config = config_of v table }
 
 pub is_asked : (told : List ℕ → Option (List ℕ)) (v : Values) (table : List ShardRow) (qs : List QueryRec) (cs : List ClickRec) → IsTextOf v.nodes.shards table → AreLogs told v.queries v.clicks qs cs → IsAsked told v (setting_of v table qs cs)
 is_asked told v table qs cs text logs = grind (arith, within)
@@ -76,7 +76,7 @@ pub run_setting : (told now : List ℕ → Option (List ℕ)) (v : Values) (tabl
     → IsAsked told v g → IsTextOf v.nodes.shards table → ((n : List ℕ) → now n ≡ told n) → IsSomeAnd (told v.clicks) (λ log. EndsAt log end_) → IsSettingOf now v.queries v.clicks config end_ g
 run_setting told now v table config made end_ g asked text same ends =
     let n = asked.setting.numbers in
-    let is : table ≡ g.table = only_table v.nodes.shards table g.table text.0 asked.table.0 text.1 asked.table.1 in
+    let is : table ≡ g.config.table = only_table v.nodes.shards table g.config.table text.0 asked.table.0 text.1 asked.table.1 in
     grind (arith, ends_there)
 
 -- ---- a run that ended well, and the lines of the journals that were read back
@@ -85,7 +85,7 @@ module _ (g : Setting) (before after : Images) (read faulted : Type 0) (ran : Op
   pub began : IsSomeAnd ran (RunLeft g before after)
   began = grind arith
 
-  module _ (o : Option (List ℕ)) (of_log : IsSomeAnd o (λ log. IsLogOf log g)) (table : List ShardRow) (same : table ≡ g.table) (ids : List EventId) (own : HaveIds g ids)
+  module _ (o : Option (List ℕ)) (of_log : IsSomeAnd o (λ log. IsLogOf log g)) (table : List ShardRow) (same : table ≡ g.config.table) (ids : List EventId) (own : HaveIds g ids)
       (lines : List ReportLine) (are : (clicks : List ClickRec) → map (λ (c : ClickRec). c.id) clicks ≡ ids → lines ≡ map (λ (c : ClickRec). line_of outcome.journals table c.id) (distinct clicks)) where
     made : AreLinesBy g outcome.journals lines
     made =
@@ -95,8 +95,8 @@ module _ (g : Setting) (before after : Images) (read faulted : Type 0) (ran : Op
     pub joined : RestJoins g before after faulted → IsSoundStore g before → Joins g before after faulted lines
     joined law sound = let rest = taken ran (λ l. RestLeft g before after l.air.history faulted outcome.journals) over.rest in law rest.0.air.history outcome.journals lines (log_checked o g of_log) sound rest.1 made
 
-    pub joined_afresh : RestJoinsAfresh g before after faulted → IsTable g.table → LeavesNothing g before → JoinsAfresh g faulted lines
+    pub joined_afresh : RestJoinsAfresh g before after faulted → IsTable g.config.table → LeavesNothing g before → JoinsAfresh g faulted lines
     joined_afresh law is nothing = let rest = taken ran (λ l. RestLeft g before after l.air.history faulted outcome.journals) over.rest in law rest.0.air.history outcome.journals lines (log_checked o g of_log) is nothing rest.1 made
 
-    pub ran_afresh : RestRanAfresh g before after faulted → IsTable g.table → LeavesNothing g before → IsSomeAnd ran (λ l. RanAfresh g l.air.history lines)
+    pub ran_afresh : RestRanAfresh g before after faulted → IsTable g.config.table → LeavesNothing g before → IsSomeAnd ran (λ l. RanAfresh g l.air.history lines)
     ran_afresh law is nothing = within ran (λ l. RestLeft g before after l.air.history faulted outcome.journals) (λ l. RanAfresh g l.air.history lines) (λ l rest. law l.air.history outcome.journals lines (log_checked o g of_log) is nothing rest made) over.rest

@@ -18,7 +18,7 @@ module _ (before placed : Images) (within : (disk : DiskName) (c : List ℕ) →
   }
 
   pub read_before : (tells log_tells : Bool) (log : List ℕ) (end_ : ℕ) (k : KeptStore) → IsTrue tells → IsRead tells placed REPLICAS log_tells log end_ k
-      → ((t : KeptTopology) (g : Setting) → k.topology ≡ Some t → HasTopology t g → g.replicas ≡ REPLICAS → Tells g placed k.journals) → IsReadFrom before log k
+      → ((t : KeptTopology) (g : Setting) → k.topology ≡ Some t → HasTopology t g → g.config.replicas ≡ REPLICAS → Tells g placed k.journals) → IsReadFrom before log k
   read_before own log_tells log end_ k here read tells = record {
     topology = let x = read.kept.topology here in (x.0, within name.Topology x.0 x.1, subst (λ o. KeepsTopology o x.0) read.told.topology x.2);
     records = λ t is g over. tells_before g k.journals (tells t g is (record { joiners = over.joiners; table = over.table }) over.replicas);
@@ -57,7 +57,7 @@ module _ (before : Images) (kept : KeptStore) (ids : List EventId) (lines : List
           store = tells.store;
           left = tells.left;
           are = tells.are;
-          told = let table : t.table ≡ g.table = sym over.table in some t is own.clicks (sym own.are) ∙ (λ k. map (λ (c : ClickRec). line_of kept.journals (table k) c.id) (distinct (clicks_are log own.clicks g own.holds over.clicks k))) ∙ tells.lines;
+          told = let table : t.table ≡ g.config.table = sym over.table in some t is own.clicks (sym own.are) ∙ (λ k. map (λ (c : ClickRec). line_of kept.journals (table k) c.id) (distinct (clicks_are log own.clicks g own.holds over.clicks k))) ∙ tells.lines;
         };
   }
 

@@ -47,7 +47,7 @@ module _ (logs : Bool) (told : List ℕ → Option (List ℕ)) (before after : I
   abbrev pub KeepsBy : Wish → Type 0
   KeepsBy (a_join v state) = IsTrue logs → (g : Setting) → IsAsked told v g → Keeps g g before after
   KeepsBy (a_resharding state text) =
-      ((row : ShardRow) → IsRowOf text row → (status ≡ 0) ⊎ (status ≡ 5) → (g : Setting) → g.replicas ≡ REPLICAS → Keeps g (with_row g row) before after)
+      ((row : ShardRow) → IsRowOf text row → (status ≡ 0) ⊎ (status ≡ 5) → (g : Setting) → g.config.replicas ≡ REPLICAS → Keeps g (with_row g row) before after)
       × (status ≢ 0 → status ≢ 5 → status ≢ 6 → (g : Setting) → Keeps g g before after)
   KeepsBy _ = (g : Setting) → Keeps g g before after
 

@@ -29,11 +29,8 @@ bulk_plan = record { rules = rule 3 7 Drop ∷ rule 5 11 (Twice 4) ∷ []; stops
 pub record IsBulkSetting (v : BulkValues) (g : Setting) : Type 0 where
   pub queries : g.queries ≡ logs.queries v.seed v.count
   pub clicks : g.clicks ≡ placed 0 (logs.clicks v.seed v.count)
-  pub horizon : g.horizon ≡ logs.horizon
-  pub joiners : g.joiners ≡ v.nodes.joiners
-  pub table : IsTextOf v.nodes.shards g.table
-  pub batch : g.batch ≡ v.nodes.batch
-  pub replicas : g.replicas ≡ REPLICAS
+  pub table : IsTextOf v.nodes.shards g.config.table
+  pub config : g.config ≡ record { horizon = logs.horizon; joiners = v.nodes.joiners; table = g.config.table; batch = v.nodes.batch; replicas = REPLICAS }
 
 -- it was run from nothing under that plan, and this is the run's history
 pub record IsBulkRun (v : BulkValues) (log : RunLog) : Type 0 where

@@ -27,7 +27,7 @@ IsMismatched g before = (k : KeptValues) → Kept g before k → IsFit k.topolog
 
 -- It asks for no joiners, so that a store without a topology has none, and reads as many replicas as any run has.
 abbrev pub unasked : Setting → Setting
-unasked g = record g { joiners = 0; replicas = REPLICAS }
+unasked g = record g { config = record g.config { joiners = 0; replicas = REPLICAS } }
 
 -- the setting is over the clicks of this log
 abbrev pub IsOverLog : (told : List ℕ → Option (List ℕ)) → Text → Setting → Type 0

@@ -26,9 +26,9 @@ use Rattle.photon_cli.specs.Words.{HasTable}
 -- than the plan has its disks stop. Where no stop of the plan is of a joiner's disk all lines are those of the two logs.
 pub record IsDrilled (g : Setting) (plan : PlanView) (lines : List ReportLine) (log : RunLog) : Type 0 where
   pub ran : RanAfresh g log.air.history lines
-  pub heard : IsHeardOf plan g.joiners log
-  pub stops : StopsAsPlanned (StopsAtMost g.joiners plan.stops) g log.air.history
-  pub whole : list_any is_joiners plan.stops ≡ false → lines ≡ map (logs.line_of g.queries g.horizon) (logs.distinct (map (λ (l : ClickLine). l.click) g.clicks))
+  pub heard : IsHeardOf plan g.config.joiners log
+  pub stops : StopsAsPlanned (StopsAtMost g.config.joiners plan.stops) g log.air.history
+  pub whole : list_any is_joiners plan.stops ≡ false → lines ≡ map (logs.line_of g.queries g.config.horizon) (logs.distinct (map (λ (l : ClickLine). l.click) g.clicks))
 
 -- No stop is of one of a disk's first three calls, which open it, and of each node's disks at most one call is planned to fail.
 pub record SparesNodes (v : Values) (stops : List PlanStop) : Type 0 where

@@ -125,7 +125,7 @@ module _ (logs sinks : Bool) (told : List ℕ → Option (List ℕ)) (files outp
     -- 2 never; 6 only where the store's count rose; 7 and 9 never over a sound store where a stop leaves something of each disk
     pub words : status ≢ 2
     pub stopped : status ≡ 6 → faulted
-    pub welcome : IsTrue disks → IsTrue logs → (g : Setting) → IsOverLog told clicks g → g.replicas ≡ REPLICAS → IsSoundStore g before → LeavesSomething g before → (status ≢ 7) × (status ≢ 9)
+    pub welcome : IsTrue disks → IsTrue logs → (g : Setting) → IsOverLog told clicks g → g.config.replicas ≡ REPLICAS → IsSoundStore g before → LeavesSomething g before → (status ≢ 7) × (status ≢ 9)
     -- 7, 9 and 10 as of a join, but that no topology is asked for
     pub damaged : IsTrue disks → IsTrue logs → (g : Setting) → IsOverLog told clicks g → (disk : DiskName) → IsTaken (unasked g) before disk → (WasJournal g before disk → ⊥) → (files → ⊥) → (faulted → ⊥) → (status ≡ 7) ⊎ (status ≡ 8)
     pub misplaced : IsTrue disks → IsTrue logs → (g : Setting) → IsOverLog told clicks g → AreMisplaced g before → (files → ⊥) → (faulted → ⊥) → (status ≡ 9) ⊎ ((status ≡ 7) ⊎ (status ≡ 8))
@@ -139,7 +139,7 @@ module _ (logs sinks : Bool) (told : List ℕ → Option (List ℕ)) (files outp
     pub stays : IsTrue disks → (disk : DiskName) → StaysAs (before disk) (after disk)
     pub sound : IsTrue disks → (g : Setting) → IsSoundStore g before → IsSoundStore g after
     -- over a sound store, with no fault and nothing at its limit, it ends with 0 or 1, unless memory runs out
-    pub complete : IsTrue disks → IsTrue logs → (g : Setting) → IsOverLog told clicks g → g.replicas ≡ REPLICAS → IsSoundStore g before → LeavesSomething g before → IsBelowLimits (unasked g) before
+    pub complete : IsTrue disks → IsTrue logs → (g : Setting) → IsOverLog told clicks g → g.config.replicas ≡ REPLICAS → IsSoundStore g before → LeavesSomething g before → IsBelowLimits (unasked g) before
         → (files → ⊥) → (faulted → ⊥) → (output → ⊥) → (status ≡ 0) ⊎ ((status ≡ 1) ⊎ (status ≡ 8))
 
 -- Of a bulk run.

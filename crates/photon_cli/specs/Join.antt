@@ -62,8 +62,8 @@ config_of v table = record { horizon = v.horizon; joiners = v.nodes.joiners; tab
 
 -- The setting is what was asked: it has these numbers, the table of that text, and the records of the two logs, which are valid.
 pub record IsAsked (told : List ℕ → Option (List ℕ)) (v : Values) (g : Setting) : Type 0 where
-  pub table : IsTextOf v.nodes.shards g.table
-  pub setting : IsSettingOf told v.queries v.clicks (config_of v g.table) (end_from 0 g.clicks) g
+  pub table : IsTextOf v.nodes.shards g.config.table
+  pub setting : IsSettingOf told v.queries v.clicks (config_of v g.config.table) (end_from 0 g.clicks) g
 
 -- Before and after say what a stop might have left of the disks and may leave of them now; faulted is that a disk met a fault.
 module _ (told : List ℕ → Option (List ℕ)) (v : Values) (before after : Images) (faulted : Type 0) (old new : List ℕ) where
@@ -85,7 +85,7 @@ IsHeardOf plan joiners = site.IsHeardOf plan joiners REPLICAS
 -- The history is a run of the whole system, from the records that the disks kept at entry, and this is what was heard of it.
 pub record IsHistory (g : Setting) (before after : Images) (plan : PlanView) (log : RunLog) : Type 0 where
   pub left : RunLeft g before after log
-  pub heard : IsHeardOf plan g.joiners log
+  pub heard : IsHeardOf plan g.config.joiners log
 
 -- the plan that leaves all packets, disks and replicas alone
 abbrev pub no_plan : PlanView

@@ -86,7 +86,7 @@ pub record ReshardEnds (sinks : Bool) (output errors : Type 0) (old new err_old 
   -- 1, 3, 4 and 9 never; 6 only where the store's count rose; 7 never over a sound store where a stop leaves something of each disk
   pub never : (status ≢ 1) × (status ≢ 3) × (status ≢ 4) × (status ≢ 9)
   pub stopped : status ≡ 6 → faulted
-  pub welcome : IsTrue disks → (g : Setting) → g.replicas ≡ REPLICAS → IsSoundStore g before → LeavesSomething g before → status ≢ 7
+  pub welcome : IsTrue disks → (g : Setting) → g.config.replicas ≡ REPLICAS → IsSoundStore g before → LeavesSomething g before → status ≢ 7
   -- 7 and 10 as of a verification; else 11, where the disks kept what forbids the row, whatever they kept
   pub damaged : IsTrue disks → HasRow text → (g : Setting) (disk : DiskName) → IsTaken (unasked g) before disk → (WasJournal g before disk → ⊥) → (faulted → ⊥) → (status ≡ 7) ⊎ (status ≡ 8)
   pub limited : IsTrue disks → HasRow text → (g : Setting) → IsAtLimit (unasked g) before → (faulted → ⊥) → (status ≡ 10) ⊎ ((status ≡ 7) ⊎ (status ≡ 8))
@@ -97,5 +97,5 @@ pub record ReshardEnds (sinks : Bool) (output errors : Type 0) (old new err_old 
   -- what stands on the disks
   pub left : IsTrue disks → LeftAt text before after status
   -- over a sound store, with no fault and nothing at its limit, the row is added or forbidden, unless memory runs out
-  pub complete : IsTrue disks → HasRow text → (g : Setting) → g.replicas ≡ REPLICAS → IsSoundStore g before → LeavesSomething g before → IsBelowLimits (unasked g) before → (faulted → ⊥) → (output → ⊥)
+  pub complete : IsTrue disks → HasRow text → (g : Setting) → g.config.replicas ≡ REPLICAS → IsSoundStore g before → LeavesSomething g before → IsBelowLimits (unasked g) before → (faulted → ⊥) → (output → ⊥)
       → (status ≡ 0) ⊎ ((status ≡ 8) ⊎ (status ≡ 11))

@@ -26,9 +26,9 @@ use Rattle.photon_cli.specs.declared.engine.run.TheConstants.{REPLICAS}
 -- the setting is over the clicks of this log, and has the topology that the store keeps
 pub record IsOver (log : List ℕ) (topology : Topology) (g : Setting) : Type 0 where
   pub clicks : IsLogOf log g
-  pub joiners : g.joiners ≡ topology.joiners
-  pub table : g.table ≡ topology.table
-  pub replicas : g.replicas ≡ REPLICAS
+  pub joiners : g.config.joiners ≡ topology.joiners
+  pub table : g.config.table ≡ topology.table
+  pub replicas : g.config.replicas ≡ REPLICAS
 
 -- The store is read as what its disks keep, each in what a stop might have left of it: the topology, and, where one is kept, the
 -- records of the replicas and the outputs.

@@ -33,15 +33,15 @@ module _ (g : Setting) (d : Disks) (row : ShardRow) (s : SoundStore g d) (free :
   longer = with_row g row
 
   abbrev js : List (List BallotNote)
-  js = journals g.replicas d.replicas
+  js = journals g.config.replicas d.replicas
 
   abbrev known : Known
   known = known_of g d (accepted_inserts g d)
 
-  accepted_early : (r : ℕ) → r < g.replicas → (p : Place) (b : Ballot) (v : Batch) → Mem (Accepted p b v) (d.replicas r).notes → IsBefore row.start v
+  accepted_early : (r : ℕ) → r < g.config.replicas → (p : Place) (b : Ballot) (v : Batch) → Mem (Accepted p b v) (d.replicas r).notes → IsBefore row.start v
   accepted_early r lt p b v m =
       each_at (IsBefore row.start) (all_batches js) (none_before (all_batches js) row.start free) v
-      (from_all d.replicas 0 g.replicas r v lt (subst (λ (j : ℕ). Mem v (batches_in (d.replicas j).notes)) (let e : r ≡ 0 + r = omega arith in e) (own_batches (d.replicas r).notes p b v m)))
+      (from_all d.replicas 0 g.config.replicas r v lt (subst (λ (j : ℕ). Mem v (batches_in (d.replicas j).notes)) (let e : r ≡ 0 + r = omega arith in e) (own_batches (d.replicas r).notes p b v m)))
 
   decided_early : (k slot : ℕ) (v : Batch) → slice_get (decided js k) slot ≡ Some v → IsBefore row.start v
   decided_early k slot v e = grind (arith, decided_accepted, accepted_stands, accepted_early)
@@ -57,7 +57,7 @@ module _ (g : Setting) (d : Disks) (row : ShardRow) (s : SoundStore g d) (free :
       ⊎_elim (λ lt. let le = bound_early k in omega (arith, lt, le)) (λ le. granted_early k i t (holder_granted (decided js k) i t le e)) (cases_lt i.micros (bound_of (decided js k)))
 
   same_shard : (i : EventId) → i.micros < row.start → shard longer i ≡ shard g i
-  same_shard i lt = ap (λ (n : ℕ). (i.ip + i.pid + i.micros) % n) (count_before g.table row 1 i.micros lt)
+  same_shard i lt = ap (λ (n : ℕ). (i.ip + i.pid + i.micros) % n) (count_before g.config.table row 1 i.micros lt)
 
   abbrev SettledIn : EventId → ℕ → Type 0
   SettledIn i k = (Registered (decided js k) i ⊎ Expired (decided js k) i) ⊎ IsWritten g known i
@@ -84,7 +84,7 @@ module _ (g : Setting) (d : Disks) (row : ShardRow) (s : SoundStore g d) (free :
         passed = λ l m lt. ⊎_elim (λ p. inl p) (λ q. inr (subst (SettledIn l.click.id) (sym (same_shard l.click.id (settled_early l.click.id (shard g l.click.id) q))) q)) (x.passed l m lt);
       }
 
-  note_stays : (r : ℕ) → r < g.replicas → (n : BallotNote) → Mem n (d.replicas r).notes → InsertsOf g known n → InsertsOf longer known n
+  note_stays : (r : ℕ) → r < g.config.replicas → (n : BallotNote) → Mem n (d.replicas r).notes → InsertsOf g known n → InsertsOf longer known n
   note_stays r lt (Accepted p b v) m x =
       let early = accepted_early r lt p b v m in
       each_from (IsInsertOf longer known p.shard) v.inserts (λ y k. let own = each_at (IsInsertOf g known p.shard) v.inserts x y k in (same_shard y.id (each_at (IsEarlier row.start) v.inserts early.1 y k) ∙ own.0, own.1))

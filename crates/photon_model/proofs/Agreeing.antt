@@ -58,8 +58,8 @@ module _ (g : Setting) (w : World) (offered : List Offer) (holds : BallotsHold g
   abbrev now : Votes
   now = votes g w offered
 
-  members : length now.journals ≡ g.replicas
-  members = journals_length g.replicas (λ r. (w.replicas r).kept)
+  members : length now.journals ≡ g.config.replicas
+  members = journals_length g.config.replicas (λ r. (w.replicas r).kept)
 
   -- a dispatcher's or joiner's cell is replaced
   others_replaced : (v : World) (more : List Sent) → votes g v offered ≡ now → (v.servers ≡ w.servers) → (v.sent ≡ more ++ w.sent) → ((x : Sent) → Mem x more → VotesOf now x.from x.packet) → BallotsHold g v offered
@@ -68,7 +68,7 @@ module _ (g : Setting) (w : World) (offered : List Offer) (holds : BallotsHold g
       (λ s lt. subst (λ (f : ℕ → Cell ServerKept ServerLive). IfUp (VotesOfServer now s (f s).kept.epoch) (f s).live) (sym servers) (holds.servers s lt))
 
   -- a replica's cell is replaced
-  module _ (r : ℕ) (lt : r < g.replicas) (c : Cell ReplicaKept (Unit {0})) (more : List Sent) where
+  module _ (r : ℕ) (lt : r < g.config.replicas) (c : Cell ReplicaKept (Unit {0})) (more : List Sent) where
     abbrev pub with_replica : World
     with_replica = record w { replicas = set_at w.replicas r c; sent = more ++ w.sent }
 
@@ -88,7 +88,7 @@ module _ (g : Setting) (w : World) (offered : List Offer) (holds : BallotsHold g
     votes_then : (o : Option Note) → c.kept ≡ land land_replica o (w.replicas r).kept → MayNote now r o → votes g with_replica offered ≡ with_note now r o
     votes_then None e may = grind arith
     votes_then (Some (Voted x)) e may =
-        let q = journals_noted g.replicas (λ k. (w.replicas k).kept) kept_then r x lt (ap (λ (k : ReplicaKept). k.notes) (set_here ∙ e)) set_other in
+        let q = journals_noted g.config.replicas (λ k. (w.replicas k).kept) kept_then r x lt (ap (λ (k : ReplicaKept). k.notes) (set_here ∙ e)) set_other in
         λ i. record { journals = q i; offered = offered; epochs = now.epochs }
     votes_then _ e may = absurd may
 
@@ -147,14 +147,14 @@ module _ (g : Setting) (w : World) (offered : List Offer) (holds : BallotsHold g
   input_votes n (Deliver f q) m from p e = let a : f ≡ from = cc in let b : q ≡ p = cc in subst (λ (x : Node × Packet). VotesOf now x.0 x.1) (λ i. (a i, b i)) (holds.packets _ m)
   input_votes n _ m from p e = absurd (cc)
 
-  replica_row_votes : (r : ℕ) → r < g.replicas → IfOpen w.sent (Replica r) (w.replicas r).opened → ReplicaVotes now r (replica_row (w.replicas r))
+  replica_row_votes : (r : ℕ) → r < g.config.replicas → IfOpen w.sent (Replica r) (w.replicas r).opened → ReplicaVotes now r (replica_row (w.replicas r))
   replica_row_votes r lt open_ = go (w.replicas r).live (w.replicas r).opened open_
     where
       inside : r < length now.journals
       inside = subst (λ m. r < m) (sym members) lt
 
       own : get_or now.journals r [] ≡ (w.replicas r).kept.notes
-      own = journal_of g.replicas (λ k. (w.replicas k).kept) r lt
+      own = journal_of g.config.replicas (λ k. (w.replicas k).kept) r lt
 
       idle_ : ReplicaVotes now r (idle tt)
       idle_ = idles now holds.agree r inside (w.replicas r).kept own
@@ -208,10 +208,10 @@ module _ (g : Setting) (c : Checked g) (old : List ℕ) (w : World) (drawn : Lis
   none_sent : (x : Sent) → Mem x [] → VotesOf votes_now x.from x.packet
   none_sent x m = absurd m
 
-  replica_same : (r : ℕ) → r < g.replicas → (l : Option (Unit {0})) (i : Option Input) → BallotsHold g (record w { replicas = set_at w.replicas r (record { kept = (w.replicas r).kept; live = l; opened = i }) }) offered × ((s : ℕ) → Begins (decided_in g w s) (decided_in g (record w { replicas = set_at w.replicas r (record { kept = (w.replicas r).kept; live = l; opened = i }) }) s))
+  replica_same : (r : ℕ) → r < g.config.replicas → (l : Option (Unit {0})) (i : Option Input) → BallotsHold g (record w { replicas = set_at w.replicas r (record { kept = (w.replicas r).kept; live = l; opened = i }) }) offered × ((s : ℕ) → Begins (decided_in g w s) (decided_in g (record w { replicas = set_at w.replicas r (record { kept = (w.replicas r).kept; live = l; opened = i }) }) s))
   replica_same r lt l i = replica_then g w offered ballots r lt (record { kept = (w.replicas r).kept; live = l; opened = i }) [] None refl tt (λ x m. absurd m)
 
-  replica_row_of : (r : ℕ) → r < g.replicas → ReplicaVotes votes_now r (replica_row (w.replicas r))
+  replica_row_of : (r : ℕ) → r < g.config.replicas → ReplicaVotes votes_now r (replica_row (w.replicas r))
   replica_row_of r lt = replica_row_votes g w offered ballots r lt (holds.replicas r lt).opened
 
   server_row_bounds : (s : ℕ) → s < 2 → BoundsHold g old w offered → BoundsOf g old (server_row g s (w.servers s)).live
@@ -368,8 +368,8 @@ opening_agrees js epochs sound =
 
 pub opens_ballots : (g : Setting) (d : Disks) (drawn : List Insert) → Sound g d drawn → (o : List Offer) × BallotsHold g (opening d) o
 opens_ballots g d drawn s = (
-  all_offers (journals g.replicas d.replicas),
-  record { agree = opening_agrees (journals g.replicas d.replicas) (λ t. (d.servers t).epoch) s.replicas; packets = λ x m. absurd m; servers = λ t lt. tt },
+  all_offers (journals g.config.replicas d.replicas),
+  record { agree = opening_agrees (journals g.config.replicas d.replicas) (λ t. (d.servers t).epoch) s.replicas; packets = λ x m. absurd m; servers = λ t lt. tt },
 )
 
 pub every_run_holds : (g : Setting) (d : Disks) (drawn : List Insert) (es : List Entry) → Checked g → Sound g d drawn → IsRun g (opening d) es → (now : List Insert) × (offered : List Offer) × WorldHolds g (world_after g (opening d) es) now × BallotsHold g (world_after g (opening d) es) offered
@@ -380,8 +380,8 @@ every_run_holds g d drawn es c s r = let o = opens_ballots g d drawn s in let z 
 pub closes : (g : Setting) (w : World) (drawn : List Insert) (offered : List Offer) → WorldHolds g w drawn → BallotsHold g w offered → Sound g (disks w) drawn
 closes g w drawn offered h b = grind arith
 
-pub one_decided : (g : Setting) (w : World) (offered : List Offer) → BallotsHold g w offered → OneChosen (journals g.replicas (λ r. (w.replicas r).kept))
-one_decided g w offered h = agreed_one (journals g.replicas (λ r. (w.replicas r).kept)) h.agree.agree
+pub one_decided : (g : Setting) (w : World) (offered : List Offer) → BallotsHold g w offered → OneChosen (journals g.config.replicas (λ r. (w.replicas r).kept))
+one_decided g w offered h = agreed_one (journals g.config.replicas (λ r. (w.replicas r).kept)) h.agree.agree
 
 -- what was granted was drawn
 pub granted_drawn : (g : Setting) (w : World) (drawn : List Insert) (offered : List Offer) → WorldHolds g w drawn → BallotsHold g w offered → (i : EventId) (t : Token) → IsGranted (values_of g (known g w drawn) i) i t → Mem (record { id = i; token = t }) drawn
@@ -443,14 +443,14 @@ unfolding opens_ballots
 decided_bound g d drawn old es c s has_ r shard_ k v e =
     let z = runs g c drawn old es (opening d) drawn (opens_ballots g d drawn s).0 (opens g d drawn s) (opens_ballots g d drawn s).1 r in
     let w = world_after g (opening d) es in
-    let b = z.5 ((λ x m. let q = from_offers (journals g.replicas d.replicas) x m in let a = accepted_stands g.replicas d.replicas x.place q.0 x.ballot x.value q.1 in inr (has_ q.0 x.place x.ballot x.value a.0 a.1)), (λ x k. tt)) in
+    let b = z.5 ((λ x m. let q = from_offers (journals g.config.replicas d.replicas) x m in let a = accepted_stands g.config.replicas d.replicas x.place q.0 x.ballot x.value q.1 in inr (has_ q.0 x.place x.ballot x.value a.0 a.1)), (λ x k. tt)) in
     let here : Place = record { shard = shard_; slot = k } in
-    let q = decided_accepted (journals g.replicas (λ r. (w.replicas r).kept)) z.3.agree.agree shard_ k v e in
+    let q = decided_accepted (journals g.config.replicas (λ r. (w.replicas r).kept)) z.3.agree.agree shard_ k v e in
     b.0 (offer here q.1 v) (z.3.agree.took here q.0 q.1 v q.2)
 
 pub bound_is_ok : (g : Setting) (d : Disks) (drawn : List Insert) (old : List ℕ) (es : List Entry) → Checked g → Sound g d drawn → HasBounds g d old → IsRun g (opening d) es →
-    (s shard_ : ℕ) (l : ServerLive) → s < 2 → ((world_after g (opening d) es).servers s).live ≡ Some l → g.horizon ≤ bound_of (l.shards shard_).learned →
-    (g.horizon ≤ bound_of (decided_in g (world_after g (opening d) es) shard_)) × IsBoundOk g old (bound_of (decided_in g (world_after g (opening d) es) shard_))
+    (s shard_ : ℕ) (l : ServerLive) → s < 2 → ((world_after g (opening d) es).servers s).live ≡ Some l → g.config.horizon ≤ bound_of (l.shards shard_).learned →
+    (g.config.horizon ≤ bound_of (decided_in g (world_after g (opening d) es) shard_)) × IsBoundOk g old (bound_of (decided_in g (world_after g (opening d) es) shard_))
 bound_is_ok g d drawn old es c s has_ r t shard_ l lt up le =
     let w = world_after g (opening d) es in
     let h = every_run_holds g d drawn es c s r in

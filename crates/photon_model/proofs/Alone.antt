@@ -67,7 +67,7 @@ module _ (g : Setting) (site : ℕ) (k : ServerKept) (l : ServerLive) (sent : Li
     first_sent r zero p lt = absurd (omega arith)
     first_sent r (suc m) p lt = ((Only (Replica r), p), inl refl, refl)
 
-    draw_fair : 0 < g.replicas → (s : ℕ) → Fairly (owns g site k l (Some s))
+    draw_fair : 0 < g.config.replicas → (s : ℕ) → Fairly (owns g site k l (Some s))
     draw_fair some s =
         record {
           silent = refl;
@@ -75,11 +75,11 @@ module _ (g : Setting) (site : ℕ) (k : ServerKept) (l : ServerLive) (sent : Li
           packets = replicas_each g site (λ (a : To × Packet). Fair (Some (next_at s (l.shards s))) a.1) (Prepare (next_at s (l.shards s)) drawn) (λ i lt. inr (refl, refl));
           round = omega arith;
           higher_ = λ q e. omega arith;
-          stands = at_set (λ t (u : ShardState). NowStands asked t u u.proposal) l.shards s _ (inr (first_sent 0 g.replicas (Prepare (next_at s (l.shards s)) drawn) some)) (λ t. to_now asked t (l.shards t) (l.shards t).proposal (holds t));
+          stands = at_set (λ t (u : ShardState). NowStands asked t u u.proposal) l.shards s _ (inr (first_sent 0 g.config.replicas (Prepare (next_at s (l.shards s)) drawn) some)) (λ t. to_now asked t (l.shards t) (l.shards t).proposal (holds t));
         }
       where
         asked : List (To × Packet)
-        asked = to_replicas g.replicas (Prepare (next_at s (l.shards s)) drawn)
+        asked = to_replicas g.config.replicas (Prepare (next_at s (l.shards s)) drawn)
 
     promise_fair : (at : Place) (p : Proposal) → (l.shards at.shard).proposal ≡ Some p → at ≡ next_at at.shard (l.shards at.shard) → (t : Phase Batch × Option Batch) → Fairly (promised g site k l at (l.shards at.shard) p t)
     promise_fair at p e here (phase, None) = still _ refl tt (omega arith) (sets at.shard _ (stood at.shard p e))
@@ -89,7 +89,7 @@ module _ (g : Setting) (site : ℕ) (k : ServerKept) (l : ServerLive) (sent : Li
     accepted_fair : (at : Place) (p : Proposal) → (l.shards at.shard).proposal ≡ Some p → (phase : Phase Batch) (o : Option Batch) → Fairly (accepted g site k l at (l.shards at.shard) p phase o)
     accepted_fair at p e phase o = grind (arith, replies_fair)
 
-    turn_fair : 0 < g.replicas → (i : Input) → Fairly (server_turn g site k l i)
+    turn_fair : 0 < g.config.replicas → (i : Input) → Fairly (server_turn g site k l i)
     turn_fair some =
         every_row g site k l (λ i o. Fairly o)
         (record {
@@ -144,7 +144,7 @@ record Drawn (w : World) : Type 0 where
   pub rounds : (s : ℕ) (l : ServerLive) → (w.servers s).live ≡ Some l → (at : Place) (b : Ballot) → Prepared w.sent at b → b.site ≡ s → b.epoch ≡ (w.servers s).kept.epoch → b.round ≤ l.round
   pub stands : (s : ℕ) (l : ServerLive) → (w.servers s).live ≡ Some l → (t : ℕ) → Stands w.sent t (l.shards t) (l.shards t).proposal
 
-module _ (g : Setting) (some : 0 < g.replicas) (w : World) (h : Drawn w) where
+module _ (g : Setting) (some : 0 < g.config.replicas) (w : World) (h : Drawn w) where
   stands_more : (new : List Sent) (t : ℕ) (st : ShardState) (o : Option Proposal) → Stands w.sent t st o → Stands (new ++ w.sent) t st o
   stands_more new t st o x = grind (arith, mem_right)
 
@@ -289,11 +289,11 @@ module _ (g : Setting) (some : 0 < g.replicas) (w : World) (h : Drawn w) where
       epoch_up how = landed_either (λ (k : ServerKept). (w.servers s).kept.epoch ≤ k.epoch) land_server (w.servers s).kept _ o how (omega arith) (row_up (w.servers s).live refl (w.servers s).opened)
   drawn_after _ m = record { alone = h.alone; owned = h.owned; rounds = h.rounds; stands = h.stands }
 
-drawn_run : (g : Setting) → 0 < g.replicas → (es : List Entry) (w : World) → Drawn w → IsRun g w es → Drawn (world_after g w es)
+drawn_run : (g : Setting) → 0 < g.config.replicas → (es : List Entry) (w : World) → Drawn w → IsRun g w es → Drawn (world_after g w es)
 drawn_run g some [] w h r = h
 drawn_run g some (e ∷ es) w h r = drawn_run g some es (after g w e) (drawn_after g some w h e r.0) r.1
 
-pub every_ballot_alone : (g : Setting) → 0 < g.replicas → (d : Disks) (es : List Entry) → IsRun g (opening d) es → BallotsAlone (world_after g (opening d) es).sent
+pub every_ballot_alone : (g : Setting) → 0 < g.config.replicas → (d : Disks) (es : List Entry) → IsRun g (opening d) es → BallotsAlone (world_after g (opening d) es).sent
 every_ballot_alone g some d es r =
     (drawn_run g some es (opening d)
     (record { alone = ((λ at place b x. absurd x.1), (λ at b v x. absurd x.1)); owned = λ at b x. absurd x.1; rounds = λ s l e. none_some l e; stands = λ s l e. none_some l e })

@@ -23,7 +23,7 @@ bound_within [] k v e = none_some v e
 bound_within (x ∷ vs) zero v e = let q : x.bound ≡ v.bound = ap (λ (y : Batch). y.bound) (some_same x v e) in omega arith
 bound_within (x ∷ vs) (suc k) v e = let q = bound_within vs k v e in omega arith
 
-module _ (g : Setting) (es : List Entry) (c : Checked g) (t : IsTable g.table) (r : IsRun g (opening empty_disks) es) (rest : IsAtRest g (world_after g (opening empty_disks) es)) where
+module _ (g : Setting) (es : List Entry) (c : Checked g) (t : IsTable g.config.table) (r : IsRun g (opening empty_disks) es) (rest : IsAtRest g (world_after g (opening empty_disks) es)) where
   abbrev w : World
   w = world_after g (opening empty_disks) es
 
@@ -49,12 +49,12 @@ module _ (g : Setting) (es : List Entry) (c : Checked g) (t : IsTable g.table) (
     abbrev vs : List Batch
     vs = decided_in g w (shard g i)
 
-    bound_is : bound_of vs ≡ g.horizon
+    bound_is : bound_of vs ≡ g.config.horizon
     bound_is = ⊎_elim (λ e. e) (λ x. absurd x) (leaves.bounds (shard g i) (shard_below g i t)).1
 
-    granted_young : (u : Token) → IsGranted vs i u → g.horizon ≤ i.micros
+    granted_young : (u : Token) → IsGranted vs i u → g.config.horizon ≤ i.micros
     granted_young u (k, (v, e, n), a) =
-        let bound = ⊎_elim {C = v.bound ≡ g.horizon} (λ q. q) (λ x. absurd x) (decided_bound g empty_disks _ [] es c sound none_old r (shard g i) k v e) in
+        let bound = ⊎_elim {C = v.bound ≡ g.config.horizon} (λ q. q) (λ x. absurd x) (decided_bound g empty_disks _ [] es c sound none_old r (shard g i) k v e) in
         let low = (granted_means vs i u k (v, e, n) a).0 in
         let within = bound_within vs k v e in
         omega arith
@@ -64,17 +64,17 @@ module _ (g : Setting) (es : List Entry) (c : Checked g) (t : IsTable g.table) (
     one_click x (y, n, e) same = sym e ∙ c.no_conflict y l n m (ap (λ (z : Click). z.id) e ∙ same)
 
     -- the report of the logs
-    logs_old : i.micros < g.horizon → logs.line_of g.queries g.horizon l.click ≡ X i
-    logs_old lt = cond_both (nat_lt i.micros g.horizon) (X i) (logs.pair_or_none l.click (first g.queries l.click.query)) (λ x. x ≡ X i) (λ _. refl) (λ f. let ge = ltb-false i.micros g.horizon f in absurd (omega arith))
+    logs_old : i.micros < g.config.horizon → logs.line_of g.queries g.config.horizon l.click ≡ X i
+    logs_old lt = cond_both (nat_lt i.micros g.config.horizon) (X i) (logs.pair_or_none l.click (first g.queries l.click.query)) (λ x. x ≡ X i) (λ _. refl) (λ f. let ge = ltb-false i.micros g.config.horizon f in absurd (omega arith))
 
-    logs_young : g.horizon ≤ i.micros → (o : Option Query) → first g.queries l.click.query ≡ o → logs.line_of g.queries g.horizon l.click ≡ logs.pair_or_none l.click o
+    logs_young : g.config.horizon ≤ i.micros → (o : Option Query) → first g.queries l.click.query ≡ o → logs.line_of g.queries g.config.horizon l.click ≡ logs.pair_or_none l.click o
     logs_young le o e = grind arith
 
     -- a written click
-    with_pair : (p : PairRec) → pair_of g d i ≡ Some p → line_by g d i (Some p) ≡ logs.line_of g.queries g.horizon l.click
+    with_pair : (p : PairRec) → pair_of g d i ≡ Some p → line_by g d i (Some p) ≡ logs.line_of g.queries g.config.horizon l.click
     with_pair p e =
         let f = found (all_pairs g d) i p e in
-        let x = from_log d (first_joiner g) (2 * g.joiners) p f.0 in
+        let x = from_log d (first_joiner g) (2 * g.config.joiners) p f.0 in
         let s = each_at (PairSound g (known g w facts.0) x.0 (w.joiners x.0).kept.epoch) (w.joiners x.0).kept.pairs (facts.2.joiners x.0 (x.1, x.2)).kept.pairs p x.3 in
         let granted = subst (λ (k : EventId). IsGranted (values_of g (known g w facts.0) k) k p.token) f.1 s.granted in
         let line = s.own_query.0 in
@@ -82,25 +82,25 @@ module _ (g : Setting) (es : List Entry) (c : Checked g) (t : IsTable g.table) (
         ap (λ (k : Click). J k p.query) same ∙ sym (logs_young (granted_young p.token granted) (Some p.query) (ap (λ (k : Click). first g.queries k.query) (sym same) ∙ s.own_query.1))
 
     no_pair : pair_of g d i ≡ None → IsWritten g (known_of g d []) i → ⊥
-    no_pair e (j, p, is, n, same) = not_found (all_pairs g d) i p e (to_log d (first_joiner g) (2 * g.joiners) j p is.0 is.1 n) same
+    no_pair e (j, p, is, n, same) = not_found (all_pairs g d) i p e (to_log d (first_joiner g) (2 * g.config.joiners) j p is.0 is.1 n) same
 
-    holder_old : i.micros < g.horizon → holder vs i ≡ None
+    holder_old : i.micros < g.config.horizon → holder vs i ≡ None
     holder_old lt = cond_both (nat_lt i.micros (bound_of vs)) None (first_insert vs i) (λ o. o ≡ None) (λ _. refl) (λ f. let ge = ltb-false i.micros (bound_of vs) f in let b = bound_is in absurd (omega arith))
 
-    holder_young : g.horizon ≤ i.micros → holder vs i ≡ first_insert vs i
+    holder_young : g.config.horizon ≤ i.micros → holder vs i ≡ first_insert vs i
     holder_young le = cond_both (nat_lt i.micros (bound_of vs)) None (first_insert vs i) (λ o. o ≡ first_insert vs i) (λ q. let lt = ltb-true i.micros (bound_of vs) q in let b = bound_is in absurd (omega arith)) (λ _. refl)
 
     line_with : (o : Option Token) → holder vs i ≡ o → unwritten_line g d i ≡ cond (is_some o) (M i) (cond (nat_lt i.micros (bound_of vs)) (X i) (U i))
     line_with o e = ap (λ (k : Option Token). cond (is_some k) (M i) (cond (nat_lt i.micros (bound_of vs)) (X i) (U i))) e
 
-    line_old : i.micros < g.horizon → unwritten_line g d i ≡ X i
+    line_old : i.micros < g.config.horizon → unwritten_line g d i ≡ X i
     line_old lt = line_with None (holder_old lt) ∙ cond_both (nat_lt i.micros (bound_of vs)) (X i) (U i) (λ x. x ≡ X i) (λ _. refl) (λ f. let ge = ltb-false i.micros (bound_of vs) f in let b = bound_is in absurd (omega arith))
 
-    line_young : g.horizon ≤ i.micros → first_insert vs i ≡ None → unwritten_line g d i ≡ U i
+    line_young : g.config.horizon ≤ i.micros → first_insert vs i ≡ None → unwritten_line g d i ≡ U i
     line_young le e = grind (arith, bound_is)
 
     -- a registered click has a query
-    has_query : (u : Token) → g.horizon ≤ i.micros → first_insert vs i ≡ Some u → (q : Query) × (first g.queries l.click.query ≡ Some q)
+    has_query : (u : Token) → g.config.horizon ≤ i.micros → first_insert vs i ≡ Some u → (q : Query) × (first g.queries l.click.query ≡ Some q)
     has_query u le e =
         let b = bound_is in
         let granted = holder_granted vs i u (omega arith) e in
@@ -109,19 +109,19 @@ module _ (g : Setting) (es : List Entry) (c : Checked g) (t : IsTable g.table) (
         (j.3.0, ap (λ (k : Click). first g.queries k.query) (sym same) ∙ j.3.1)
 
     -- a click with a query that is not written is registered
-    not_forgotten : pair_of g d i ≡ None → g.horizon ≤ i.micros → first_insert vs i ≡ None → (q : Query) → first g.queries l.click.query ≡ Some q → ⊥
+    not_forgotten : pair_of g d i ≡ None → g.config.horizon ≤ i.micros → first_insert vs i ≡ None → (q : Query) → first g.queries l.click.query ≡ Some q → ⊥
     not_forgotten e le none_ q f =
         let b = bound_is in
         ⊎_elim (λ x. no_pair e x) (λ x. none_some x.0.0 (sym (holder_young le ∙ none_) ∙ x.0.1))
         (drained g w facts.0 c facts.2 0 (lit< tt) (leaves.drained 0 (lit< tt)) l q m f (λ lt. absurd (omega arith)))
 
-    young : pair_of g d i ≡ None → g.horizon ≤ i.micros → (o : Option Token) → first_insert vs i ≡ o → (f : Option Query) → first g.queries l.click.query ≡ f
-        → (unwritten_line g d i ≡ logs.line_of g.queries g.horizon l.click) ⊎ ((unwritten_line g d i ≡ M i) × (g.horizon ≤ i.micros) × ((q : Query) × (first g.queries l.click.query ≡ Some q)))
+    young : pair_of g d i ≡ None → g.config.horizon ≤ i.micros → (o : Option Token) → first_insert vs i ≡ o → (f : Option Query) → first g.queries l.click.query ≡ f
+        → (unwritten_line g d i ≡ logs.line_of g.queries g.config.horizon l.click) ⊎ ((unwritten_line g d i ≡ M i) × (g.config.horizon ≤ i.micros) × ((q : Query) × (first g.queries l.click.query ≡ Some q)))
     young e le o k f n = grind (arith, holder_young, has_query, not_forgotten, line_young)
 
-    by_pair : (o : Option PairRec) → pair_of g d i ≡ o → (line_by g d i o ≡ logs.line_of g.queries g.horizon l.click) ⊎ ((line_by g d i o ≡ M i) × (g.horizon ≤ i.micros) × ((q : Query) × (first g.queries l.click.query ≡ Some q)))
+    by_pair : (o : Option PairRec) → pair_of g d i ≡ o → (line_by g d i o ≡ logs.line_of g.queries g.config.horizon l.click) ⊎ ((line_by g d i o ≡ M i) × (g.config.horizon ≤ i.micros) × ((q : Query) × (first g.queries l.click.query ≡ Some q)))
     by_pair (Some p) e = inl (with_pair p e)
-    by_pair None e = ⊎_elim (λ lt. inl (line_old lt ∙ sym (logs_old lt))) (λ le. young e le (first_insert vs i) refl (first g.queries l.click.query) refl) (cases_lt i.micros g.horizon)
+    by_pair None e = ⊎_elim (λ lt. inl (line_old lt ∙ sym (logs_old lt))) (λ le. young e le (first_insert vs i) refl (first g.queries l.click.query) refl) (cases_lt i.micros g.config.horizon)
 
     pub click_is_exact : IsExact g d l.click
     click_is_exact = by_pair (pair_of g d i) refl
@@ -153,12 +153,12 @@ line_from (l ∷ ls) x h = grind (arith, line_from ls x)
 
 pub report_is_exact : AtRestFromEmpty ReportIsExact
 report_is_exact g es c t r rest none_missing =
-    map_same (λ (x : Click). line_of g (disks (world_after g (opening empty_disks) es)) x.id) (logs.line_of g.queries g.horizon) (logs.distinct clicks) each
+    map_same (λ (x : Click). line_of g (disks (world_after g (opening empty_disks) es)) x.id) (logs.line_of g.queries g.config.horizon) (logs.distinct clicks) each
   where
     clicks : List Click
     clicks = map (λ (l : ClickLine). l.click) g.clicks
 
-    each : (x : Click) → Mem x (logs.distinct clicks) → line_of g (disks (world_after g (opening empty_disks) es)) x.id ≡ logs.line_of g.queries g.horizon x
+    each : (x : Click) → Mem x (logs.distinct clicks) → line_of g (disks (world_after g (opening empty_disks) es)) x.id ≡ logs.line_of g.queries g.config.horizon x
     each x n =
         let h = line_from g.clicks x (distinct_mem clicks x n) in
         grind (arith, clicks_are_exact)

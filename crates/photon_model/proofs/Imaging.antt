@@ -87,17 +87,17 @@ are_from g kind from zero h = tt
 are_from g kind from (suc n) h = (h from (omega arith) (omega arith), are_from g kind (suc from) n (λ j a b. h j (omega (arith, a)) (omega (arith, b))))
 
 abbrev replicas_of : Setting → List Node
-replicas_of g = nodes_from Replica 0 g.replicas
+replicas_of g = nodes_from Replica 0 g.config.replicas
 
 abbrev joiners_of : Setting → List Node
-joiners_of g = nodes_from Joiner (first_joiner g) (2 * g.joiners)
+joiners_of g = nodes_from Joiner (first_joiner g) (2 * g.config.joiners)
 
 all_nodes : Setting → List Node
 all_nodes g = Dispatcher 0 ∷ Dispatcher 1 ∷ Server 0 ∷ Server 1 ∷ (replicas_of g ++ joiners_of g)
 
 are_nodes : (g : Setting) → Each (IsNode g) (all_nodes g)
 unfolding all_nodes
-are_nodes g = (lit< tt, (lit< tt, (lit< tt, (lit< tt, each_append (IsNode g) (replicas_of g) (joiners_of g) (are_from g Replica 0 g.replicas (λ j a b. omega (arith, b))) (are_from g Joiner (first_joiner g) (2 * g.joiners) (λ j a b. (a, b)))))))
+are_nodes g = (lit< tt, (lit< tt, (lit< tt, (lit< tt, each_append (IsNode g) (replicas_of g) (joiners_of g) (are_from g Replica 0 g.config.replicas (λ j a b. omega (arith, b))) (are_from g Joiner (first_joiner g) (2 * g.config.joiners) (λ j a b. (a, b)))))))
 
 node_in : (g : Setting) (n : Node) → IsNode g n → Mem n (all_nodes g)
 unfolding all_nodes
@@ -107,8 +107,8 @@ node_in g (Dispatcher (suc (suc s))) k = absurd (omega arith)
 node_in g (Server zero) k = inr (inr (inl refl))
 node_in g (Server (suc zero)) k = inr (inr (inr (inl refl)))
 node_in g (Server (suc (suc s))) k = absurd (omega arith)
-node_in g (Replica r) k = inr (inr (inr (inr (mem_left (Replica r) (replicas_of g) (joiners_of g) (in_from Replica 0 g.replicas r (omega arith) (omega arith))))))
-node_in g (Joiner j) k = inr (inr (inr (inr (mem_right (Joiner j) (replicas_of g) (joiners_of g) (in_from Joiner (first_joiner g) (2 * g.joiners) j k.0 k.1)))))
+node_in g (Replica r) k = inr (inr (inr (inr (mem_left (Replica r) (replicas_of g) (joiners_of g) (in_from Replica 0 g.config.replicas r (omega arith) (omega arith))))))
+node_in g (Joiner j) k = inr (inr (inr (inr (mem_right (Joiner j) (replicas_of g) (joiners_of g) (in_from Joiner (first_joiner g) (2 * g.config.joiners) j k.0 k.1)))))
 
 -- ---- nodes that the setting doesn't have stay closed
 
@@ -126,8 +126,8 @@ opening_closed d _ = refl
 is_node_or_not : (g : Setting) (n : Node) → IsNode g n ⊎ (IsNode g n → ⊥)
 is_node_or_not g (Dispatcher s) = ⊎_elim (λ a. inl a) (λ a. inr (λ b. absurd (omega arith))) (cases_lt s 2)
 is_node_or_not g (Server s) = ⊎_elim (λ a. inl a) (λ a. inr (λ b. absurd (omega arith))) (cases_lt s 2)
-is_node_or_not g (Replica s) = ⊎_elim (λ a. inl a) (λ a. inr (λ b. absurd (omega arith))) (cases_lt s g.replicas)
-is_node_or_not g (Joiner s) = ⊎_elim (λ lt. inr (λ b. let x = b.0 in absurd (omega arith))) (λ le. ⊎_elim (λ lt. inl (le, lt)) (λ ge. inr (λ b. let x = b.1 in absurd (omega arith))) (cases_lt s (first_joiner g + 2 * g.joiners))) (cases_lt s (first_joiner g))
+is_node_or_not g (Replica s) = ⊎_elim (λ a. inl a) (λ a. inr (λ b. absurd (omega arith))) (cases_lt s g.config.replicas)
+is_node_or_not g (Joiner s) = ⊎_elim (λ lt. inr (λ b. let x = b.0 in absurd (omega arith))) (λ le. ⊎_elim (λ lt. inl (le, lt)) (λ ge. inr (λ b. let x = b.1 in absurd (omega arith))) (cases_lt s (first_joiner g + 2 * g.config.joiners))) (cases_lt s (first_joiner g))
 
 module _ (g : Setting) (d : Disks) (es : List Entry) (landed : Node → Bool) (r : IsRun g (opening d) es) where
   abbrev now : World

@@ -84,7 +84,7 @@ module _ (g : Setting) (w : World) (drawn : List Insert) (holds : WorldHolds g w
           dispatchers = λ t lt. dispatcher_lasts g now then_ up more w.sent t (w.dispatchers t) (holds.dispatchers t lt);
           joiners = λ j i. joiner_lasts g now then_ up more w.sent j (w.joiners j) (λ x m e. m) (holds.joiners j i);
           servers = λ t lt. server_facts_last g now then_ up more w.sent t (w.servers t) (holds.servers t lt);
-          replicas = at_set_if (λ t. t < g.replicas) (ReplicaFacts g then_ (more ++ w.sent)) w.replicas r c (record { kept = notes_last g now then_ up c.kept.notes h.kept; opened = h.opened }) (λ t lt ne. replica_lasts g now then_ up more w.sent t (w.replicas t) (holds.replicas t lt));
+          replicas = at_set_if (λ t. t < g.config.replicas) (ReplicaFacts g then_ (more ++ w.sent)) w.replicas r c (record { kept = notes_last g now then_ up c.kept.notes h.kept; opened = h.opened }) (λ t lt ne. replica_lasts g now then_ up more w.sent t (w.replicas t) (holds.replicas t lt));
           drawing = record { joinable = holds.drawing.joinable; joiner = holds.drawing.joiner; epoch = holds.drawing.epoch; one_id = holds.drawing.one_id };
         }
 
@@ -178,7 +178,7 @@ module _ (g : Setting) (w : World) (drawn : List Insert) (holds : WorldHolds g w
       up (Some l) e h None u i = server_keeps g now s (w.servers s).kept l Own h tt (λ at b r p v x. absurd (cc))
       up (Some l) e h (Some x) u i = server_keeps g now s (w.servers s).kept l x h (input_holds (Server s) x i) (chosen l x s lt e u)
 
-  pub replica_row_keeps : (r : ℕ) → r < g.replicas → ReplicaKeeps g now (w.replicas r).kept (replica_row (w.replicas r))
+  pub replica_row_keeps : (r : ℕ) → r < g.config.replicas → ReplicaKeeps g now (w.replicas r).kept (replica_row (w.replicas r))
   replica_row_keeps r lt =
       let f = holds.replicas r lt in
       row_by replica_start (λ k l i. replica_turn k i) (w.replicas r).kept (w.replicas r).live (w.replicas r).opened (ReplicaKeeps g now (w.replicas r).kept) (record { kept = f.kept; packets = tt })

@@ -36,7 +36,7 @@ module _ (n : Votes) (agree : VotesAgree n) where
       back : (w : Batch) → Offered now at b w → Offered n at b w ⊎ (w ≡ v)
       back w h = grind arith
 
-  module _ (g : Setting) (members : length n.journals ≡ g.replicas) (site : ℕ) (site_ok : site < 2) (k : ServerKept) (same : n.epochs site ≡ k.epoch) (l : ServerLive) (holds : VotesOfServer n site k.epoch l) where
+  module _ (g : Setting) (members : length n.journals ≡ g.config.replicas) (site : ℕ) (site_ok : site < 2) (k : ServerKept) (same : n.epochs site ≡ k.epoch) (l : ServerLive) (holds : VotesOfServer n site k.epoch l) where
     abbrev AllVotes : List (To × Packet) → Type 0
     AllVotes ps = Each (λ (a : To × Packet). VotesOf n (Server site) a.1) ps
 
@@ -96,7 +96,7 @@ module _ (n : Votes) (agree : VotesAgree n) where
 
       -- its value is sent
       sends_value : (at : Place) (p : Proposal) (v : Batch) (marks : ℕ) → at.shard ≡ s → at ≡ here → marks ≡ length n.journals → p.ballot.site ≡ site → p.ballot.epoch ≡ k.epoch → p.ballot.round ≤ l.round → IsUnheard n.journals (Offered n) here p.ballot → IsSafe (length n.journals) (votes_in n.journals here) p.ballot v →
-          ServerVotes n site k.epoch (record { note = None; packets = to_replicas g.replicas (Accept at p.ballot v); live = with_shard g site k l s (record (l.shards s) { proposal = Some (record { ballot = p.ballot; own = p.own; phase = Accepting v (nobody marks) }) }) })
+          ServerVotes n site k.epoch (record { note = None; packets = to_replicas g.config.replicas (Accept at p.ballot v); live = with_shard g site k l s (record (l.shards s) { proposal = Some (record { ballot = p.ballot; own = p.own; phase = Accepting v (nobody marks) }) }) })
       sends_value at p v marks e at_here same_marks a b c unheard safe =
           record {
             new = offer here p.ballot v ∷ [];

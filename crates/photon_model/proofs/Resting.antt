@@ -25,11 +25,11 @@ rest_is_done g d es old c s has_ r rest = record { drained = drained; bounds = b
     drained : (k : ℕ) → k < 2 → IsDrained g (w.dispatchers k).kept
     drained k lt = let h = every_run_holds g d (accepted_inserts g d) es c s r in rest_drained g w h.0 c h.2 k lt (rest.dispatchers k lt)
 
-    bounds : (shard : ℕ) → shard < shards g → (g.horizon ≤ bound_of (decided_in g w shard)) × IsBoundOk g old (bound_of (decided_in g w shard))
+    bounds : (shard : ℕ) → shard < shards g → (g.config.horizon ≤ bound_of (decided_in g w shard)) × IsBoundOk g old (bound_of (decided_in g w shard))
     bounds shard lt =
         let u = up_is (λ (l : ServerLive). server_at_rest g l ≡ true) (w.servers 0).live (rest.servers 0 (lit< tt)) in
-        let e = first_none (λ k. nat_lt (bound_of (u.0.shards k).learned) g.horizon) 0 (shards g) (none_is _ u.2) shard (omega arith) (omega arith) in
-        bound_is_ok g d (accepted_inserts g d) old es c s has_ r 0 shard u.0 (lit< tt) u.1 (ltb-false (bound_of (u.0.shards shard).learned) g.horizon e)
+        let e = first_none (λ k. nat_lt (bound_of (u.0.shards k).learned) g.config.horizon) 0 (shards g) (none_is _ u.2) shard (omega arith) (omega arith) in
+        bound_is_ok g d (accepted_inserts g d) old es c s has_ r 0 shard u.0 (lit< tt) u.1 (ltb-false (bound_of (u.0.shards shard).learned) g.config.horizon e)
 
     missing : NoJoinerStops es → (i : EventId) (h : Token) → holder (values_of g (known g w []) i) i ≡ Some h → (IsWritten g (known g w []) i → ⊥) → Mem (record { id = i; token = h }) (accepted_inserts g d)
     missing calm = missing_is_old g d (accepted_inserts g d) es c s r calm (λ j l is up. no_flights l (subst (UpWith (λ (k : JoinerLive). joiner_at_rest k ≡ true)) up (rest.joiners j is)))

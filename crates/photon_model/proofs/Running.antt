@@ -109,7 +109,7 @@ find_joiner f i from (suc m) = go (find_joiner f i from m) (find_pair (f (from +
         (cases_lt j (from + m)))
 
 written_or_not : (g : Setting) (n : Known) (i : EventId) → IsWritten g n i ⊎ (IsWritten g n i → ⊥)
-written_or_not g n i = ⊎_elim (λ h. inl (h.0, h.1, (h.2, h.3), h.4, h.5)) (λ h. inr (λ w. h w.0 w.1 w.2.0 w.2.1 w.3 w.4)) (find_joiner n.pairs i (first_joiner g) (2 * g.joiners))
+written_or_not g n i = ⊎_elim (λ h. inl (h.0, h.1, (h.2, h.3), h.4, h.5)) (λ h. inr (λ w. h w.0 w.1 w.2.0 w.2.1 w.3 w.4)) (find_joiner n.pairs i (first_joiner g) (2 * g.config.joiners))
 
 pub drained : (g : Setting) (w : World) (drawn : List Insert) → Checked g → WorldHolds g w drawn → (s : ℕ) → s < 2 → IsDrained g (w.dispatchers s).kept → (l : ClickLine) (q : Query) → Mem l g.clicks → first g.queries l.click.query ≡ Some q → (Expired (values_of g (known g w []) l.click.id) l.click.id → ⊥) → IsWritten g (known g w []) l.click.id ⊎ IsMissing g (known g w []) l.click.id
 drained g w drawn c h s lt d l q m found fresh =

@@ -20,8 +20,8 @@ module _ (g : Setting) (site : ℕ) (P : To × Packet → Type 0) where
   from_each r zero p h = tt
   from_each r (suc m) p h = (h r (omega arith), from_each (suc r) m p (λ i lt. h i (omega arith)))
 
-  pub replicas_each : (p : Packet) → ((i : ℕ) → i < g.replicas → P (Only (Replica i), p)) → Each P (to_replicas g.replicas p)
-  replicas_each p h = from_each 0 g.replicas p (λ i lt. h i (omega arith))
+  pub replicas_each : (p : Packet) → ((i : ℕ) → i < g.config.replicas → P (Only (Replica i), p)) → Each P (to_replicas g.config.replicas p)
+  replicas_each p h = from_each 0 g.config.replicas p (λ i lt. h i (omega arith))
 
   pub reply_each : (x : Insert) (a : Answer) → (is_own_joiner g site x.token.joiner ≡ true → P (Only (Joiner x.token.joiner), Reply x a)) → Each P (reply g site x a)
   reply_each x a h = cond_both (is_own_joiner g site x.token.joiner) ((Only (Joiner x.token.joiner), Reply x a) ∷ []) [] (Each P) (λ t. (h t, tt)) (λ _. tt)
@@ -31,8 +31,8 @@ module _ (g : Setting) (site : ℕ) (P : To × Packet → Type 0) where
   replies_each vs (x ∷ xs) h = grind (arith, replies_each vs xs)
 
   -- a Tick sends the question of each proposal again
-  module _ (k : ServerKept) (l : ServerLive) (asks : (s : ℕ) (p : Proposal) (marks : List Bool) (best : Option (Ballot × Batch)) → (l.shards s).proposal ≡ Some p → p.phase ≡ Promising marks best → (i : ℕ) → i < g.replicas → P (Only (Replica i), Prepare (next_at s (l.shards s)) p.ballot))
-      (offers : (s : ℕ) (p : Proposal) (v : Batch) (marks : List Bool) → (l.shards s).proposal ≡ Some p → p.phase ≡ Accepting v marks → (i : ℕ) → i < g.replicas → P (Only (Replica i), Accept (next_at s (l.shards s)) p.ballot v)) where
+  module _ (k : ServerKept) (l : ServerLive) (asks : (s : ℕ) (p : Proposal) (marks : List Bool) (best : Option (Ballot × Batch)) → (l.shards s).proposal ≡ Some p → p.phase ≡ Promising marks best → (i : ℕ) → i < g.config.replicas → P (Only (Replica i), Prepare (next_at s (l.shards s)) p.ballot))
+      (offers : (s : ℕ) (p : Proposal) (v : Batch) (marks : List Bool) → (l.shards s).proposal ≡ Some p → p.phase ≡ Accepting v marks → (i : ℕ) → i < g.config.replicas → P (Only (Replica i), Accept (next_at s (l.shards s)) p.ballot v)) where
     again_each : (s : ℕ) → Each P (again g site k l s (l.shards s) (l.shards s).proposal)
     again_each s = option_both (l.shards s).proposal (again g site k l s (l.shards s)) (Each P) (λ p e. of p e p.phase refl) (λ _. tt)
       where

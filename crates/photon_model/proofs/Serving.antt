@@ -88,7 +88,7 @@ module _ (g : Setting) (n : Known) where
               packets = tick_each g site (λ (a : To × Packet). HoldsOf g n a.1) k l (λ s p marks best e f i lt. tt) (λ s p v marks e f i lt. subst (HoldsOfPhase g n s) f (stood s p e).1);
             };
             draws = λ s may x c. record {
-              live = at_set (ShardHolds g n) l.shards s _ (record { learned = (holds s).learned; queue = (holds s).queue; proposal = (take_each (IsInsertOf g n s) g.batch (l.shards s).queue (holds s).queue, tt) }) holds;
+              live = at_set (ShardHolds g n) l.shards s _ (record { learned = (holds s).learned; queue = (holds s).queue; proposal = (take_each (IsInsertOf g n s) g.config.batch (l.shards s).queue (holds s).queue, tt) }) holds;
               packets = replicas_each g site (λ (a : To × Packet). HoldsOf g n a.1) (Prepare (next_at s (l.shards s)) (record { round = suc l.round; epoch = k.epoch; site = site })) (λ i lt. tt);
             };
             answers = λ from x a e m c. record { live = holds; packets = reply_each g site (λ (b : To × Packet). HoldsOf g n b.1) x a (λ t. replays_hold (l.shards (shard g x.id)).learned x a (holds (shard g x.id)).learned e) };

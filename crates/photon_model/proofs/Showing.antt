@@ -27,10 +27,10 @@ module _ (g : Setting) (d : Disks) (i : EventId) where
   Unwritten = IsWritten g (known_of g d []) i → ⊥
 
   pub written : (p : PairRec) → pair_of g d i ≡ Some p → IsWritten g (known_of g d []) i
-  written p e = let f = found (all_pairs g d) i p e in let h = from_log d (first_joiner g) (2 * g.joiners) p f.0 in (h.0, p, (h.1, h.2), h.3, f.1)
+  written p e = let f = found (all_pairs g d) i p e in let h = from_log d (first_joiner g) (2 * g.config.joiners) p f.0 in (h.0, p, (h.1, h.2), h.3, f.1)
 
   pub unwritten : pair_of g d i ≡ None → Unwritten
-  unwritten e (j, p, is, m, same) = not_found (all_pairs g d) i p e (to_log d (first_joiner g) (2 * g.joiners) j p is.0 is.1 m) same
+  unwritten e (j, p, is, m, same) = not_found (all_pairs g d) i p e (to_log d (first_joiner g) (2 * g.config.joiners) j p is.0 is.1 m) same
 
   shows : (o : Option PairRec) → pair_of g d i ≡ o → line_by g d i o ≡ M i → IsMissing g (known_of g d []) i
   shows o e q = grind (arith, unwritten)

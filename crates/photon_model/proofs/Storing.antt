@@ -2,6 +2,7 @@
 use Rattle.std.proofs.Common.{◌≡◌, inl, inr, ⊎_elim, ℕ, ◌≤◌, Bool, List, [], ◌∷◌, ◌++◌, Some, sym, subst, arith, refl}
 use Rattle.std.specs.Prelude.{find, Option}
 use Rattle.photon_model.proofs.Words.{Insert, Query, Click, ClickLine, end_from, Follow, IsBoundary, Mem, Begins, Setting, Checked, IsJoin, PairRec, BallotNote, none_some, mem_left, mem_split, each_more, Known, known_of, DispatcherSound, PairSound, DrawnSound, InsertsOf, Sound, SoundStore, accepted_inserts, World, Entry, Disks, after, world_after, Store, WholeSound, empty_disks, ReadIsChecked, IsLonger, set_at, Replica, Joiner, Note, Output, Voted, land, JoinerKept, JoinerLive, land_joiner, ReplicaKept, land_replica, at_set, Begin, End, Stop, begun, Cell}
+use Rattle.turn_defs.specs.declared.config.Config.{Config}
 use Rattle.photon_model.proofs.Journals.{journal_beyond, votes_of}
 use Rattle.log_records.proofs.Places.{queries_begin, lines_begin, lines_follow}
 use Rattle.photon_model.proofs.Growth.{begins_self, begins_again}
@@ -11,9 +12,9 @@ empty_sound g = grind (arith, votes_of, journal_beyond)
 
 -- ---- longer logs
 
--- both logs with more lines at their ends; the horizon and the size of a batch may be others
-abbrev pub longer : Setting → List Query → List ClickLine → ℕ → ℕ → Setting
-longer g qs cs horizon batch = record { queries = g.queries ++ qs; clicks = g.clicks ++ cs; horizon = horizon; joiners = g.joiners; table = g.table; batch = batch; replicas = g.replicas }
+-- both logs with more lines at their ends; all of the config but the topology may be other
+abbrev pub longer : Setting → List Query → List ClickLine → Config → Setting
+longer g qs cs c = record { queries = g.queries ++ qs; clicks = g.clicks ++ cs; config = record c { joiners = g.config.joiners; table = g.config.table; replicas = g.config.replicas } }
 
 find_front : {A : Type 0} (p : A → Bool) (xs ys : List A) (y : A) → find p xs ≡ Some y → find p (xs ++ ys) ≡ Some y
 find_front p [] ys y e = none_some y e
@@ -35,14 +36,14 @@ follow_front (x ∷ xs) ys p f = let r = follow_front xs ys x.end_ f.2 in ((f.0,
 places_after : (ls : List ClickLine) (p : ℕ) (l : ClickLine) → Follow p ls → Mem l ls → p ≤ l.place
 places_after ls p l f m = Rattle.log_records.proofs.LineOrder.places_from ls p l f m
 
-module _ (g : Setting) (qs : List Query) (cs : List ClickLine) (horizon batch : ℕ) (c : Checked (longer g qs cs horizon batch)) (n : Known) where
-  join_lasts : (x : Click) (q : Query) → IsJoin g x q → IsJoin (longer g qs cs horizon batch) x q
+module _ (g : Setting) (qs : List Query) (cs : List ClickLine) (config : Config) (c : Checked (longer g qs cs config)) (n : Known) where
+  join_lasts : (x : Click) (q : Query) → IsJoin g x q → IsJoin (longer g qs cs config) x q
   join_lasts x q h = ((h.0.0, find_front _ g.clicks cs h.0.0 h.0.1, h.0.2), find_front _ g.queries qs q h.1)
 
   offset_within : (p : ℕ) → IsBoundary g.clicks p → p ≤ end_from 0 g.clicks
   offset_within p h = grind (arith, end_of, follow_front)
 
-  dispatcher_longer : (k : Rattle.turn_defs.specs.Dispatcher.DispatcherKept) → DispatcherSound g n k → DispatcherSound (longer g qs cs horizon batch) n k
+  dispatcher_longer : (k : Rattle.turn_defs.specs.Dispatcher.DispatcherKept) → DispatcherSound g n k → DispatcherSound (longer g qs cs config) n k
   dispatcher_longer k s =
       record {
         boundary = ⊎_elim (λ e. inl e) (λ (h : (l : ClickLine) × Mem l g.clicks × (l.end_ ≡ k.offset)). inr (h.0, mem_left h.0 g.clicks cs h.1, h.2)) s.boundary;
@@ -51,23 +52,23 @@ module _ (g : Setting) (qs : List Query) (cs : List ClickLine) (horizon batch : 
         passed = λ l m lt. ⊎_elim (λ h. s.passed l h lt) (λ h. absurd (let q = offset_within k.offset s.boundary in let r = places_after cs (end_from 0 g.clicks) l (follow_front g.clicks cs 0 c.follow).1 h in omega arith)) (mem_split l g.clicks cs m);
       }
 
-  pair_longer : (j e : ℕ) (p : PairRec) → PairSound g n j e p → PairSound (longer g qs cs horizon batch) n j e p
+  pair_longer : (j e : ℕ) (p : PairRec) → PairSound g n j e p → PairSound (longer g qs cs config) n j e p
   pair_longer j e p s = record { own_query = join_lasts p.click p.query s.own_query; joiner = s.joiner; epoch = s.epoch; granted = s.granted; drawn = s.drawn }
 
-  drawn_longer : (epochs : ℕ → ℕ) → DrawnSound g n epochs → DrawnSound (longer g qs cs horizon batch) n epochs
+  drawn_longer : (epochs : ℕ → ℕ) → DrawnSound g n epochs → DrawnSound (longer g qs cs config) n epochs
   drawn_longer epochs s = record { joinable = λ x m. let h = s.joinable x m in (h.0, mem_left h.0 g.clicks cs h.1, h.2, (h.3.0, find_front _ g.queries qs h.3.0 h.3.1)); joiner = s.joiner; epoch = s.epoch; one_id = s.one_id }
 
-  note_longer : (x : BallotNote) → InsertsOf g n x → InsertsOf (longer g qs cs horizon batch) n x
+  note_longer : (x : BallotNote) → InsertsOf g n x → InsertsOf (longer g qs cs config) n x
   note_longer x h = grind arith
 
-pub sound_lasts : (g : Setting) (qs : List Query) (cs : List ClickLine) (horizon batch : ℕ) (d : Disks) (drawn : List Insert) → Checked (longer g qs cs horizon batch) → Sound g d drawn → Sound (longer g qs cs horizon batch) d drawn
-sound_lasts g qs cs horizon batch d drawn c s =
+pub sound_lasts : (g : Setting) (qs : List Query) (cs : List ClickLine) (config : Config) (d : Disks) (drawn : List Insert) → Checked (longer g qs cs config) → Sound g d drawn → Sound (longer g qs cs config) d drawn
+sound_lasts g qs cs config d drawn c s =
     record {
       replicas = s.replicas;
-      joiners = λ j i. record { pairs = each_more (PairSound g (known_of g d drawn) j (d.joiners j).epoch) (PairSound (longer g qs cs horizon batch) (known_of g d drawn) j (d.joiners j).epoch) (d.joiners j).pairs (pair_longer g qs cs horizon batch c (known_of g d drawn) j (d.joiners j).epoch) (s.joiners j i).pairs; once = (s.joiners j i).once };
-      dispatchers = λ t lt. dispatcher_longer g qs cs horizon batch c (known_of g d drawn) (d.dispatchers t) (s.dispatchers t lt);
-      drawing = drawn_longer g qs cs horizon batch c (known_of g d drawn) (λ j. (d.joiners j).epoch) s.drawing;
-      inserts = λ r lt. each_more (InsertsOf g (known_of g d drawn)) (InsertsOf (longer g qs cs horizon batch) (known_of g d drawn)) (d.replicas r).notes (note_longer g qs cs horizon batch c (known_of g d drawn)) (s.inserts r lt);
+      joiners = λ j i. record { pairs = each_more (PairSound g (known_of g d drawn) j (d.joiners j).epoch) (PairSound (longer g qs cs config) (known_of g d drawn) j (d.joiners j).epoch) (d.joiners j).pairs (pair_longer g qs cs config c (known_of g d drawn) j (d.joiners j).epoch) (s.joiners j i).pairs; once = (s.joiners j i).once };
+      dispatchers = λ t lt. dispatcher_longer g qs cs config c (known_of g d drawn) (d.dispatchers t) (s.dispatchers t lt);
+      drawing = drawn_longer g qs cs config c (known_of g d drawn) (λ j. (d.joiners j).epoch) s.drawing;
+      inserts = λ r lt. each_more (InsertsOf g (known_of g d drawn)) (InsertsOf (longer g qs cs config) (known_of g d drawn)) (d.replicas r).notes (note_longer g qs cs config c (known_of g d drawn)) (s.inserts r lt);
     }
 
 pub read_is_checked : ReadIsChecked
@@ -81,16 +82,16 @@ module _ (g h : Setting) (query_log click_log more_queries more_clicks : List �
   more_lines = lines_begin click_log more_clicks g.clicks h.clicks l.before.clicks l.after.clicks
 
   abbrev grown : Setting
-  grown = longer g more_records.0 more_lines.0 h.horizon h.batch
+  grown = longer g more_records.0 more_lines.0 h.config
 
   is_grown : grown ≡ h
-  is_grown = λ i. record { queries = sym more_records.1 i; clicks = sym more_lines.1 i; horizon = h.horizon; joiners = l.topology.joiners i; table = l.topology.table i; batch = h.batch; replicas = l.topology.replicas i }
+  is_grown = λ i. record { queries = sym more_records.1 i; clicks = sym more_lines.1 i; config = record h.config { joiners = l.topology.joiners i; table = l.topology.table i; replicas = l.topology.replicas i } }
 
   grown_checked : Checked grown
   grown_checked = subst Checked (sym is_grown) (read_is_checked h (query_log ++ more_queries) (click_log ++ more_clicks) l.after)
 
   grown_store : (d : Disks) → SoundStore g d → SoundStore grown d
-  grown_store d s = sound_lasts g more_records.0 more_lines.0 h.horizon h.batch d (accepted_inserts g d) grown_checked s
+  grown_store d s = sound_lasts g more_records.0 more_lines.0 h.config d (accepted_inserts g d) grown_checked s
 
   pub longer_keeps_store : (d : Disks) → SoundStore g d → SoundStore h d
   longer_keeps_store d s = subst (λ (k : Setting). SoundStore k d) is_grown (grown_store d s)

@@ -16,18 +16,18 @@ logs d from (suc n) = ap (λ (ps : List PairRec). (d.joiners from).pairs ++ ps) 
 
 module _ (g : Setting) (d : Disks) (js : Journals) (own : AreOf g d js) (i : EventId) where
   pairs : classes.all_pairs js ≡ report.all_pairs g d
-  pairs = ap (λ (ls : List (List PairRec)). flat_map (λ ps. ps) ls) own.pairs ∙ logs d (first_joiner g) (2 * g.joiners)
+  pairs = ap (λ (ls : List (List PairRec)). flat_map (λ ps. ps) ls) own.pairs ∙ logs d (first_joiner g) (2 * g.config.joiners)
 
   pub pair : classes.first_pair (classes.all_pairs js) i ≡ pair_of g d i
   pair = ap (λ (ps : List PairRec). classes.first_pair ps i) pairs
 
-  values : classes.decided_for js g.table i ≡ decided_for g d i
+  values : classes.decided_for js g.config.table i ≡ decided_for g d i
   values = ap (λ (ns : List (List BallotNote)). decided same_batch ns (shard g i)) own.notes
 
   line_by : (o : Option PairRec) → classes.line_by (decided_for g d i) i o ≡ report.line_by g d i o
   line_by o = grind arith
 
-  pub line : classes.line_of js g.table i ≡ report.line_of g d i
+  pub line : classes.line_of js g.config.table i ≡ report.line_of g d i
   line =
       ap (λ (vs : List Batch). classes.line_by vs i (classes.first_pair (classes.all_pairs js) i)) values
       ∙ ap (λ (o : Option PairRec). classes.line_by (decided_for g d i) i o) pair
@@ -50,11 +50,11 @@ module _ (g : Setting) (d : Disks) (js : Journals) (own : AreOf g d js) (i : Eve
   shown : (t : Option Token) (o : Option PairRec) → holder (decided_for g d i) i ≡ t → pair_of g d i ≡ o → IsMissing g (known_of g d []) i → (is_some t && not (is_some o)) ≡ true
   shown t o h e m = grind (arith, written)
 
-  pub missing : (classes.is_missing js g.table i ≡ true) ↔ IsMissing g (known_of g d []) i
+  pub missing : (classes.is_missing js g.config.table i ≡ true) ↔ IsMissing g (known_of g d []) i
   missing = (
-    shows (holder (classes.decided_for js g.table i) i) (classes.first_pair (classes.all_pairs js) i) held (sym pair),
-    shown (holder (classes.decided_for js g.table i) i) (classes.first_pair (classes.all_pairs js) i) held (sym pair),
+    shows (holder (classes.decided_for js g.config.table i) i) (classes.first_pair (classes.all_pairs js) i) held (sym pair),
+    shown (holder (classes.decided_for js g.config.table i) i) (classes.first_pair (classes.all_pairs js) i) held (sym pair),
   )
     where
-      held : holder (decided_for g d i) i ≡ holder (classes.decided_for js g.table i) i
+      held : holder (decided_for g d i) i ≡ holder (classes.decided_for js g.config.table i) i
       held = ap (λ (vs : List Batch). holder vs i) (sym values)

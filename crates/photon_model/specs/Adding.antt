@@ -13,11 +13,11 @@ use Rattle.photon_model.specs.Topology.{Store, WholeSound, topology_of}
 
 -- the setting with one more row
 abbrev pub with_row : Setting → ShardRow → Setting
-with_row g row = record g { table = g.table ++ row ∷ [] }
+with_row g row = record g { config = record g.config { table = g.config.table ++ row ∷ [] } }
 
 -- nothing that any replica accepted forbids a row from this start on
 abbrev pub IsFree : Setting → Disks → ℕ → Type 0
-IsFree g d start = too_soon_for (all_batches (journals g.replicas d.replicas)) start ≡ None
+IsFree g d start = too_soon_for (all_batches (journals g.config.replicas d.replicas)) start ≡ None
 
 -- an id that the row moves to another shard isn't settled: it is neither registered nor expired nor written
 abbrev pub MovesUnsettled : Type 0

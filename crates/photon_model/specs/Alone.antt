@@ -19,4 +19,4 @@ BallotsAlone sent =
     × ((at : Place) (b : Ballot) (v : Batch) → HasSent sent (Accept at b v) → Prepared sent at b)
 
 abbrev pub EveryBallotAlone : Type 0
-EveryBallotAlone = (g : Setting) → 0 < g.replicas → (d : Disks) (es : List Entry) → IsRun g (opening d) es → BallotsAlone (world_after g (opening d) es).sent
+EveryBallotAlone = (g : Setting) → 0 < g.config.replicas → (d : Disks) (es : List Entry) → IsRun g (opening d) es → BallotsAlone (world_after g (opening d) es).sent

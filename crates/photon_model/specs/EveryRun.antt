@@ -29,7 +29,7 @@ abbrev pub AllFactsHold : Setting → World → Type 0
 AllFactsHold g w = (drawn : List Insert) × (offered : List Offer) × WorldHolds g w drawn × BallotsHold g w offered
 
 abbrev pub decided_in : Setting → World → ℕ → List Batch
-decided_in g w = decided (journals g.replicas (λ r. (w.replicas r).kept))
+decided_in g w = decided (journals g.config.replicas (λ r. (w.replicas r).kept))
 
 -- no joiner stops
 abbrev pub NoJoinerStops : List Entry → Type 0
@@ -43,18 +43,18 @@ NoJoinerStops (End m o ps k ∷ es) = NoJoinerStops es
 
 -- the horizon, or a bound of the list
 abbrev pub IsBoundOk : Setting → List ℕ → ℕ → Type 0
-IsBoundOk g old b = (b ≡ g.horizon) ⊎ Mem b old
+IsBoundOk g old b = (b ≡ g.config.horizon) ⊎ Mem b old
 
 -- a list with the bounds of all accepted records
 abbrev pub HasBounds : Setting → Disks → List ℕ → Type 0
-HasBounds g d old = (r : ℕ) (at : Place) (b : Ballot) (v : Batch) → r < g.replicas → Mem (Accepted at b v) (d.replicas r).notes → Mem v.bound old
+HasBounds g d old = (r : ℕ) (at : Place) (b : Ballot) (v : Batch) → r < g.config.replicas → Mem (Accepted at b v) (d.replicas r).notes → Mem v.bound old
 
 -- What rest leaves after a run from a store: both dispatchers have drained; each shard's decided bound is not below the
 -- horizon, and is the horizon or one that was accepted before the run; and where no joiner stopped, each missing id is held
 -- by a token that stood in an accepted record before the run.
 pub record RestLeaves (g : Setting) (d : Disks) (es : List Entry) (old : List ℕ) (w : World) : Type 0 where
   pub drained : (s : ℕ) → s < 2 → IsDrained g (w.dispatchers s).kept
-  pub bounds : (shard : ℕ) → shard < shards g → (g.horizon ≤ bound_of (decided_in g w shard)) × IsBoundOk g old (bound_of (decided_in g w shard))
+  pub bounds : (shard : ℕ) → shard < shards g → (g.config.horizon ≤ bound_of (decided_in g w shard)) × IsBoundOk g old (bound_of (decided_in g w shard))
   pub missing : NoJoinerStops es → (i : EventId) (h : Token) → holder (values_of g (known g w []) i) i ≡ Some h → (IsWritten g (known g w []) i → ⊥) → Mem (record { id = i; token = h }) (accepted_inserts g d)
 
 abbrev pub RestIsDone : Type 0

@@ -169,5 +169,5 @@ pub record WorldHolds (g : Setting) (w : World) (drawn : List Insert) : Type 0 w
   pub dispatchers : (s : ℕ) → s < 2 → DispatcherFacts g (known g w drawn) w.sent s (w.dispatchers s)
   pub joiners : (j : ℕ) → IsJoiner g j → JoinerFacts g (known g w drawn) w.sent j (w.joiners j)
   pub servers : (s : ℕ) → s < 2 → ServerFacts g (known g w drawn) w.sent s (w.servers s)
-  pub replicas : (r : ℕ) → r < g.replicas → ReplicaFacts g (known g w drawn) w.sent r (w.replicas r)
+  pub replicas : (r : ℕ) → r < g.config.replicas → ReplicaFacts g (known g w drawn) w.sent r (w.replicas r)
   pub drawing : DrawnSound g (known g w drawn) (λ j. (w.joiners j).kept.epoch)

@@ -32,7 +32,7 @@ HasOwnQueries g w = (j k : ℕ) (p : PairRec) → IsJoiner g j → PairAt w j k 
 
 -- replicas never decide differently: in each place at most one value is chosen
 abbrev pub DecidesOnce : Setting → World → Type 0
-DecidesOnce g w = OneChosen (journals g.replicas (λ r. (w.replicas r).kept))
+DecidesOnce g w = OneChosen (journals g.config.replicas (λ r. (w.replicas r).kept))
 
 -- and what a server has learned of a shard begins what is decided there
 abbrev pub LearnsTheDecided : Setting → World → Type 0

@@ -21,10 +21,10 @@ pairs_from d j (suc n) = (d.joiners j).pairs ++ pairs_from d (suc j) n
 
 module _ (g : Setting) (d : Disks) where
   abbrev pub all_pairs : List PairRec
-  all_pairs = pairs_from d (first_joiner g) (2 * g.joiners)
+  all_pairs = pairs_from d (first_joiner g) (2 * g.config.joiners)
 
   abbrev pub decided_for : EventId → List Batch
-  decided_for i = decided (journals g.replicas d.replicas) (shard g i)
+  decided_for i = decided (journals g.config.replicas d.replicas) (shard g i)
 
   -- the first written pair of an id
   abbrev pub pair_of : EventId → Option PairRec

@@ -76,8 +76,8 @@ pub record IsQuiet (g : Setting) (dead : ℕ → Bool) (w : World) : Type 0 wher
   pub dispatchers : (s : ℕ) → s < 2 → ((w.dispatchers s).opened ≡ None) × UpWith (λ l. dispatcher_wants l ≡ false) (w.dispatchers s).live
   pub servers : (s : ℕ) → s < 2 → ((w.servers s).opened ≡ None) × UpWith (λ l. server_wants g l ≡ false) (w.servers s).live
   pub joiners : (j : ℕ) → IsJoiner g j → ((w.joiners j).opened ≡ None) × UpWith (λ l. ⊤) (w.joiners j).live
-  pub replicas : (r : ℕ) → r < g.replicas → dead r ≡ false → ((w.replicas r).opened ≡ None) × UpWith (λ l. ⊤) (w.replicas r).live
-  pub silent : (r : ℕ) → r < g.replicas → dead r ≡ true → (w.replicas r).opened ≡ None
+  pub replicas : (r : ℕ) → r < g.config.replicas → dead r ≡ false → ((w.replicas r).opened ≡ None) × UpWith (λ l. ⊤) (w.replicas r).live
+  pub silent : (r : ℕ) → r < g.config.replicas → dead r ≡ true → (w.replicas r).opened ≡ None
 
 -- What is on its way: an End puts its packets in, but for those to nodes that take no part, and a delivery takes one out.
 -- No turn stops, and nothing is left on its way at the end.

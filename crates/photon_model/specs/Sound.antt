@@ -87,15 +87,15 @@ module _ (g : Setting) (n : Known) where
 
 -- what the disks say, the inserts that were drawn being given
 abbrev pub known_of : Setting → Disks → List Insert → Known
-known_of g d drawn = record { values = decided (journals g.replicas d.replicas); pairs = λ j. (d.joiners j).pairs; drawn = drawn }
+known_of g d drawn = record { values = decided (journals g.config.replicas d.replicas); pairs = λ j. (d.joiners j).pairs; drawn = drawn }
 
 -- The records of all disks are sound.
 pub record Sound (g : Setting) (d : Disks) (drawn : List Insert) : Type 0 where
-  pub replicas : ReplicasSound (journals g.replicas d.replicas) (λ s. (d.servers s).epoch)
+  pub replicas : ReplicasSound (journals g.config.replicas d.replicas) (λ s. (d.servers s).epoch)
   pub joiners : (j : ℕ) → IsJoiner g j → JoinerSound g (known_of g d drawn) j (d.joiners j)
   pub dispatchers : (s : ℕ) → s < 2 → DispatcherSound g (known_of g d drawn) (d.dispatchers s)
   pub drawing : DrawnSound g (known_of g d drawn) (λ j. (d.joiners j).epoch)
-  pub inserts : (r : ℕ) → r < g.replicas → Each (InsertsOf g (known_of g d drawn)) (d.replicas r).notes
+  pub inserts : (r : ℕ) → r < g.config.replicas → Each (InsertsOf g (known_of g d drawn)) (d.replicas r).notes
 
 -- the inserts of all accepted records
 abbrev pub inserts_in : List BallotNote → List Insert
@@ -108,7 +108,7 @@ inserts_of [] = []
 inserts_of (ns ∷ js) = inserts_in ns ++ inserts_of js
 
 abbrev pub accepted_inserts : Setting → Disks → List Insert
-accepted_inserts g d = inserts_of (journals g.replicas d.replicas)
+accepted_inserts g d = inserts_of (journals g.config.replicas d.replicas)
 
 -- The records of all disks are sound, what was drawn being the inserts of their own accepted records.
 abbrev pub SoundStore : Setting → Disks → Type 0

@@ -48,9 +48,9 @@ ReadIsChecked = (g : Setting) (query_log click_log : List ℕ) → IsOver g quer
 
 -- what two calls have in common: the topology, and the number of replicas
 pub record IsOneTopology (g h : Setting) : Type 0 where
-  pub joiners : g.joiners ≡ h.joiners
-  pub table : g.table ≡ h.table
-  pub replicas : g.replicas ≡ h.replicas
+  pub joiners : g.config.joiners ≡ h.config.joiners
+  pub table : g.config.table ≡ h.config.table
+  pub replicas : g.config.replicas ≡ h.config.replicas
 
 -- a later setting over the logs with more bytes at their ends; its horizon and the size of a batch may be others
 pub record IsLonger (g h : Setting) (query_log click_log more_queries more_clicks : List ℕ) : Type 0 where

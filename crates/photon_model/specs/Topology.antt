@@ -10,7 +10,7 @@ pub record Topology : Type 0 where
   pub table : List ShardRow
 
 abbrev pub topology_of : Setting → Topology
-topology_of g = record { joiners = g.joiners; table = g.table }
+topology_of g = record { joiners = g.config.joiners; table = g.config.table }
 
 -- the topology's record if there is one, what the other disks hold, and whether any of them has a record
 pub record Store : Type 0 where
@@ -23,7 +23,7 @@ pub record IsBlank (g : Setting) (d : Disks) : Type 0 where
   pub offset : (s : ℕ) → s < 2 → (d.dispatchers s).offset ≡ 0
   pub pending : (s : ℕ) → s < 2 → (d.dispatchers s).pending ≡ []
   pub server_epoch : (s : ℕ) → s < 2 → (d.servers s).epoch ≡ 0
-  pub notes : (r : ℕ) → r < g.replicas → (d.replicas r).notes ≡ []
+  pub notes : (r : ℕ) → r < g.config.replicas → (d.replicas r).notes ≡ []
   pub joiner_epoch : (j : ℕ) → IsJoiner g j → (d.joiners j).epoch ≡ 0
   pub pairs : (j : ℕ) → IsJoiner g j → (d.joiners j).pairs ≡ []
 

@@ -16,8 +16,8 @@ use Rattle.verify_pass.specs.Classes.{notes_of}
 
 -- the records are those of the disks: the replicas' notes, and the joiners' pairs, in the order of their numbers
 pub record AreOf (g : Setting) (d : Disks) (js : Journals) : Type 0 where
-  pub notes : notes_of js ≡ journals g.replicas d.replicas
-  pub pairs : js.pairs.items ≡ values_from (λ j. (d.joiners j).pairs) (first_joiner g) (2 * g.joiners)
+  pub notes : notes_of js ≡ journals g.config.replicas d.replicas
+  pub pairs : js.pairs.items ≡ values_from (λ j. (d.joiners j).pairs) (first_joiner g) (2 * g.config.joiners)
 
 -- the pair that verification finds is the report's
 abbrev pub FindsThePair : Type 0
@@ -29,15 +29,15 @@ FindsTheWritten = (g : Setting) (d : Disks) (js : Journals) → AreOf g d js →
 
 -- an id's line is the report's
 abbrev pub TellsTheLine : Type 0
-TellsTheLine = (g : Setting) (d : Disks) (js : Journals) → AreOf g d js → (i : EventId) → classes.line_of js g.table i ≡ report.line_of g d i
+TellsTheLine = (g : Setting) (d : Disks) (js : Journals) → AreOf g d js → (i : EventId) → classes.line_of js g.config.table i ≡ report.line_of g d i
 
 -- so the lines of all clicks are the report
 abbrev pub TellsTheReport : Type 0
-TellsTheReport = (g : Setting) (d : Disks) (js : Journals) → AreOf g d js → map (λ (c : Click). classes.line_of js g.table c.id) (distinct (map (λ (l : ClickLine). l.click) g.clicks)) ≡ report.report g d
+TellsTheReport = (g : Setting) (d : Disks) (js : Journals) → AreOf g d js → map (λ (c : Click). classes.line_of js g.config.table c.id) (distinct (map (λ (l : ClickLine). l.click) g.clicks)) ≡ report.report g d
 
 -- what it counts as missing is what is missing
 abbrev pub CountsTheMissing : Type 0
-CountsTheMissing = (g : Setting) (d : Disks) (js : Journals) → AreOf g d js → (i : EventId) → (classes.is_missing js g.table i ≡ true) ↔ IsMissing g (known_of g d []) i
+CountsTheMissing = (g : Setting) (d : Disks) (js : Journals) → AreOf g d js → (i : EventId) → (classes.is_missing js g.config.table i ≡ true) ↔ IsMissing g (known_of g d []) i
 
 -- a sound store has what verification asks of the records
 abbrev pub SoundAgrees : Type 0

@@ -10,7 +10,7 @@ use Rattle.progress_laws.proofs.Turning.{AsksAll, IsKept, promised_turns}
 module _ (g : Setting) (site : ℕ) (k : ServerKept) (l : ServerLive) where
   -- ---- an answer to the attempt, and a Tick
 
-  module _ (n : ℕ) (below : n < shards g) (p : Proposal) (stands : (l.shards n).proposal ≡ Some p) (open_ : IsOpen g.replicas p.phase) where
+  module _ (n : ℕ) (below : n < shards g) (p : Proposal) (stands : (l.shards n).proposal ≡ Some p) (open_ : IsOpen g.config.replicas p.phase) where
     -- where the attempt still stands its question goes to all, or the replica is counted
     abbrev pub Counts : ℕ → Out ServerLive → Type 0
     Counts r o = (now : Proposal) → (o.live.shards n).proposal ≡ Some now → AsksAll g site k l n (o.live.shards n) now o.packets ⊎ HasMark r now.phase
@@ -27,13 +27,13 @@ module _ (g : Setting) (site : ℕ) (k : ServerKept) (l : ServerLive) where
     abbrev after_promise : ℕ → Option (Ballot × Batch) → Out ServerLive
     after_promise r prior = promised g site k l (next_of n (l.shards n)) (l.shards n) p (on_promise p.own p.phase r prior)
 
-    counted : (r : ℕ) (prior : Option (Ballot × Batch)) → r < g.replicas → (marks : List Bool) (best : Option (Ballot × Batch)) → IsOpen g.replicas (Promising marks best) → PhaseGoes (Promising marks best) (on_promise p.own (Promising marks best) r prior).0 → HasMark r (on_promise p.own (Promising marks best) r prior).0
+    counted : (r : ℕ) (prior : Option (Ballot × Batch)) → r < g.config.replicas → (marks : List Bool) (best : Option (Ballot × Batch)) → IsOpen g.config.replicas (Promising marks best) → PhaseGoes (Promising marks best) (on_promise p.own (Promising marks best) r prior).0 → HasMark r (on_promise p.own (Promising marks best) r prior).0
     counted r prior lt marks best o = grind (arith, promises_no_more, marked_now, was_marked)
 
-    promise_counts : (r : ℕ) (prior : Option (Ballot × Batch)) → r < g.replicas → (marks : List Bool) (best : Option (Ballot × Batch)) → p.phase ≡ Promising marks best → Counts r (after_promise r prior)
+    promise_counts : (r : ℕ) (prior : Option (Ballot × Batch)) → r < g.config.replicas → (marks : List Bool) (best : Option (Ballot × Batch)) → p.phase ≡ Promising marks best → Counts r (after_promise r prior)
     promise_counts r prior lt marks best phase now q =
         ⊎_elim (λ a. inl a) (λ (a : IsKept g site k l n ((after_promise r prior).live.shards n) now). inr (mark a))
-        ((promised_turns g site k l Own (next_of n (l.shards n)) p stands refl (on_promise p.own p.phase r prior).0 (on_promise p.own p.phase r prior).1 (promise_goes p.own p.phase r prior) (promise_open g.replicas p.own p.phase r prior)).follows n now q)
+        ((promised_turns g site k l Own (next_of n (l.shards n)) p stands refl (on_promise p.own p.phase r prior).0 (on_promise p.own p.phase r prior).1 (promise_goes p.own p.phase r prior) (promise_open g.config.replicas p.own p.phase r prior)).follows n now q)
       where
         now_is : (on_promise p.own p.phase r prior).0 ≡ now.phase
         now_is = ap (λ (y : Proposal). y.phase) (some_same _ now (sym (ap (λ (c : ShardState). c.proposal) (set_now (record (l.shards n) { proposal = Some (record { ballot = p.ballot; own = p.own; phase = (on_promise p.own p.phase r prior).0 }) }))) ∙ q))
@@ -42,10 +42,10 @@ module _ (g : Setting) (site : ℕ) (k : ServerKept) (l : ServerLive) where
         mark a = grind (arith, counted)
 
     -- an acceptance ends the attempt, or is counted
-    acceptance_counted : (r : ℕ) → r < g.replicas → (v : Batch) (marks : List Bool) → IsOpen g.replicas (Accepting v marks) → (on_accepted (Accepting v marks) r).1 ≡ None → HasMark r (on_accepted (Accepting v marks) r).0
+    acceptance_counted : (r : ℕ) → r < g.config.replicas → (v : Batch) (marks : List Bool) → IsOpen g.config.replicas (Accepting v marks) → (on_accepted (Accepting v marks) r).1 ≡ None → HasMark r (on_accepted (Accepting v marks) r).0
     acceptance_counted r lt v marks o = grind (arith, marked_now, was_marked)
 
-    accepted_counts : (r : ℕ) → r < g.replicas → (v : Batch) (marks : List Bool) → p.phase ≡ Accepting v marks → Counts r (accepted g site k l (next_of n (l.shards n)) (l.shards n) p (on_accepted p.phase r).0 (on_accepted p.phase r).1)
+    accepted_counts : (r : ℕ) → r < g.config.replicas → (v : Batch) (marks : List Bool) → p.phase ≡ Accepting v marks → Counts r (accepted g site k l (next_of n (l.shards n)) (l.shards n) p (on_accepted p.phase r).0 (on_accepted p.phase r).1)
     accepted_counts r lt v marks phase = grind (arith, acceptance_counted)
 
     nack_counts : (r : ℕ) (c : Ballot) → Counts r (server_turn g site k l (Deliver (Replica r) (Nack (next_of n (l.shards n)) p.ballot c)))
@@ -54,7 +54,7 @@ module _ (g : Setting) (site : ℕ) (k : ServerKept) (l : ServerLive) where
         (current_both r _ (λ now q. none_some now (sym (ap (λ (c : ShardState). c.proposal) (set_now (record (l.shards n) { proposal = None; held = true }))) ∙ q)))
 
     -- an answer of a replica to the attempt counts
-    pub answer_counts : (r : ℕ) → r < g.replicas → (x : Packet) → IsAnswer (next_of n (l.shards n)) p.ballot p.phase x → Counts r (server_turn g site k l (Deliver (Replica r) x))
+    pub answer_counts : (r : ℕ) → r < g.config.replicas → (x : Packet) → IsAnswer (next_of n (l.shards n)) p.ballot p.phase x → Counts r (server_turn g site k l (Deliver (Replica r) x))
     answer_counts r lt x = by_phase p.phase refl
       where
         by_phase : (y : Phase Batch) → p.phase ≡ y → IsAnswer (next_of n (l.shards n)) p.ballot y x → Counts r (server_turn g site k l (Deliver (Replica r) x))
@@ -69,12 +69,12 @@ module _ (g : Setting) (site : ℕ) (k : ServerKept) (l : ServerLive) where
         by_phase Ended e a = absurd a
 
     -- a Tick asks all again
-    of_phase_asks : (at : Place) (b : Ballot) (y : Phase Batch) → IsOpen g.replicas y → (r : ℕ) → r < g.replicas → Mem (Only (Replica r), question at b y) (of_phase g site k l at b y)
+    of_phase_asks : (at : Place) (b : Ballot) (y : Phase Batch) → IsOpen g.config.replicas y → (r : ℕ) → r < g.config.replicas → Mem (Only (Replica r), question at b y) (of_phase g site k l at b y)
     of_phase_asks at b y o r lt = grind (arith, mem_to)
 
     in_all : (a : To × Packet) (from m : ℕ) → from ≤ n → n < from + m → Mem a (again g site k l n (l.shards n) (l.shards n).proposal) → Mem a (all_again g site k l from m)
     in_all a from zero x y h = absurd (omega arith)
     in_all a from (suc m) x y h = grind (arith, mem_right, mem_left, in_all a (suc from) m)
 
-    pub tick_asks : (r : ℕ) → r < g.replicas → Mem (Only (Replica r), question (next_of n (l.shards n)) p.ballot p.phase) (server_turn g site k l Tick).packets
+    pub tick_asks : (r : ℕ) → r < g.config.replicas → Mem (Only (Replica r), question (next_of n (l.shards n)) p.ballot p.phase) (server_turn g site k l Tick).packets
     tick_asks r lt = in_all _ 0 (shards g) (omega arith) (omega arith) (subst (λ o. Mem (Only (Replica r), question (next_of n (l.shards n)) p.ballot p.phase) (again g site k l n (l.shards n) o)) (sym stands) (of_phase_asks (next_of n (l.shards n)) p.ballot p.phase open_ r lt))

@@ -39,10 +39,10 @@ abbrev pub HasOwnTokens : Setting → World → Type 0
 HasOwnTokens g w = (j : ℕ) → IsJoiner g j → (l : JoinerLive) → (w.joiners j).live ≡ Some l → (f : Flight) → Mem f l.flight → f.token.joiner ≡ j
 
 pub site_below : (g : Setting) (j : ℕ) → site_of_joiner g j < 2
-site_below g j = cond_both (nat_lt j (first_joiner g + g.joiners)) 0 1 (λ s. s < 2) (λ _. lit< tt) (λ _. lit< tt)
+site_below g j = cond_both (nat_lt j (first_joiner g + g.config.joiners)) 0 1 (λ s. s < 2) (λ _. lit< tt) (λ _. lit< tt)
 
 own_joiner : (g : Setting) (j : ℕ) → IsJoiner g j → is_own_joiner g (site_of_joiner g j) j ≡ true
-own_joiner g j is = and_from _ _ (and_from _ _ (le-leb (first_joiner g) j is.0) (lt-ltb j (first_joiner g + 2 * g.joiners) is.1)) (eq-eqb (site_of_joiner g j) (site_of_joiner g j) refl)
+own_joiner g j is = and_from _ _ (and_from _ _ (le-leb (first_joiner g) j is.0) (lt-ltb j (first_joiner g + 2 * g.config.joiners) is.1)) (eq-eqb (site_of_joiner g j) (site_of_joiner g j) refl)
 
 module _ {g : Setting} {dead : ℕ → Bool} {w : World} {air next : List Sent} {e : Entry} {es : List Entry} (step : Step g dead w air next e es) where
   sent_on : (j : ℕ) → IsEnd e (Joiner j) → (f : Flight) → Sends g j f (joiner_row g j (w.joiners j)) → IsAsked g (after g w e) next es j f
@@ -61,7 +61,7 @@ module _ {g : Setting} {dead : ℕ → Bool} {w : World} {air next : List Sent} 
       by_row step (Joiner j) end (λ (o : Out JoinerLive). Mem f o.live.flight → ((l : JoinerLive) × ((w.joiners j).live ≡ Some l) × Mem f l.flight) ⊎ ((f.token.joiner ≡ j) × Sends g j f o))
       (λ _ m. absurd m) (λ l up i _ m. ⊎_elim (λ k. inl (l, up, k)) (λ k. inr k) ((turn_both g j (w.joiners j).kept l i).0 f m))
 
-  module _ (table : IsTable g.table) where
+  module _ (table : IsTable g.config.table) where
     -- a server's turn that takes an insert
     heard : (j : ℕ) (f : Flight) → IsJoiner g j → f.token.joiner ≡ j → (l : ServerLive) → (w.servers (site_of_joiner g j)).live ≡ Some l → IsEnd e (Server (site_of_joiner g j)) → (from : Node) → opened_at w (Server (site_of_joiner g j)) ≡ Some (Deliver from (Claim (insert_of f))) → GoesOn g (after g w e) next es j f
     heard j f is tok l up end from o =
@@ -100,7 +100,7 @@ module _ {g : Setting} {dead : ℕ → Bool} {w : World} {air next : List Sent} 
 
 -- ---- along an interval
 
-pub asks : (g : Setting) (dead : ℕ → Bool) → IsTable g.table → (w : World) (es : List Entry) → IsIdle g dead w es → HasOwnTokens g w → (s : ℕ) → HasFlight g (world_after g w es) s → IsLeftAt g (world_after g w es) s
+pub asks : (g : Setting) (dead : ℕ → Bool) → IsTable g.config.table → (w : World) (es : List Entry) → IsIdle g dead w es → HasOwnTokens g w → (s : ℕ) → HasFlight g (world_after g w es) s → IsLeftAt g (world_after g w es) s
 asks g dead table w es i own s (j, l, f, is, site, up, m) = subst (IsLeftAt g v) site (only ((along_idle g dead (FlightsGoOn g) (λ w air next e es step. flights_go_on step table) es w i begins).each j is l up f m).1)
   where
     v : World

@@ -39,7 +39,7 @@ all_closed g dead w q (Server s) is = quiet_closed g dead w q (Server s) is refl
 all_closed g dead w q (Joiner j) is = quiet_closed g dead w q (Joiner j) is refl
 all_closed g dead w q (Replica r) is = ⊎_elim (λ out. q.silent r is out) (λ live. quiet_closed g dead w q (Replica r) is live) (cases_Bool (dead r))
 
-module _ (g : Setting) (dead : ℕ → Bool) (table : IsTable g.table) (most : Majority g.replicas (λ r. dead r ≡ false)) (w : World) (es : List Entry) (i : IsIdle g dead w es) (open_ : AreOpen g w) (causes : OfAllShards (HasCause g) w) (own : HasOwnTokens g w) (lines : HasLines g w) where
+module _ (g : Setting) (dead : ℕ → Bool) (table : IsTable g.config.table) (most : Majority g.config.replicas (λ r. dead r ≡ false)) (w : World) (es : List Entry) (i : IsIdle g dead w es) (open_ : AreOpen g w) (causes : OfAllShards (HasCause g) w) (own : HasOwnTokens g w) (lines : HasLines g w) where
   abbrev v : World
   v = world_after g w es
 
@@ -174,7 +174,7 @@ module _ (g : Setting) (dead : ℕ → Bool) (table : IsTable g.table) (most : M
   tested : {L : Type 0} (P : L → Type 0) (test : L → Bool) (o : Option L) → UpWith P o → UpWith (λ l. test l ≡ true) o ⊎ UpWith (λ l. test l ≡ false) o
   tested P test o u = grind arith
 
-  joiner_rests : (j : ℕ) → j < first_joiner g + 2 * g.joiners → (IsJoiner g j → UpWith (λ (l : JoinerLive). joiner_at_rest l ≡ true) (w.joiners j).live) ⊎ SomeRefused
+  joiner_rests : (j : ℕ) → j < first_joiner g + 2 * g.config.joiners → (IsJoiner g j → UpWith (λ (l : JoinerLive). joiner_at_rest l ≡ true) (w.joiners j).live) ⊎ SomeRefused
   joiner_rests j lt =
       ⊎_elim
       (λ low. inl (λ is. let ge = is.0 in absurd (omega (arith, low, ge))))
@@ -188,7 +188,7 @@ module _ (g : Setting) (dead : ℕ → Bool) (table : IsTable g.table) (most : M
       (λ ss. ⊎_elim
       (λ js. inl (record { dispatchers = ds; joiners = λ j is. js j is.1 is; servers = ss }))
       (λ q. inr q)
-      (every (λ j. IsJoiner g j → UpWith (λ (l : JoinerLive). joiner_at_rest l ≡ true) (w.joiners j).live) SomeRefused (first_joiner g + 2 * g.joiners) joiner_rests))
+      (every (λ j. IsJoiner g j → UpWith (λ (l : JoinerLive). joiner_at_rest l ≡ true) (w.joiners j).live) SomeRefused (first_joiner g + 2 * g.config.joiners) joiner_rests))
       (λ q. inr q)
       (every (λ s. UpWith (λ (l : ServerLive). server_at_rest g l ≡ true) (w.servers s).live) SomeRefused 2
       (λ s lt. ⊎_elim (λ t. inl t) (λ f. inr (some_refused s lt (all.servers s f))) (tested _ (server_at_rest g) (w.servers s).live (i.interval.starts.servers s lt).1))))

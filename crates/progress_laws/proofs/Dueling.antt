@@ -34,7 +34,7 @@ module _ (g : Setting) (dead : ℕ → Bool) (old : World) (at : Place) (site lo
     pub most : Option Ballot
     pub up : SitesUp w
     pub causes : OfAllShards (HasCause g) w
-    pub promises : (r : ℕ) → r < g.replicas → dead r ≡ false → Promised most (promise_at old r at) (promise_at w r at)
+    pub promises : (r : ℕ) → r < g.config.replicas → dead r ≡ false → Promised most (promise_at old r at) (promise_at w r at)
     pub packets : (x : Sent) → IsNode g x.to → Pending w air es x.to (Deliver x.from x.packet) → Fine g dead old at most x.to x.packet
     pub attempts : (s : ℕ) → s < 2 → (l : ServerLive) → (w.servers s).live ≡ Some l → AttemptUpTo g dead old at most l
     pub made : (u : Ballot) → most ≡ Some u → IsMade g dead old at w u
@@ -81,11 +81,11 @@ module _ (g : Setting) (dead : ℕ → Bool) (old : World) (at : Place) (site lo
     -- ---- promises
 
     -- a question that a replica's open turn took
-    asked : (r : ℕ) → r < g.replicas → (i : Input) (b : Ballot) → opened_at w (Replica r) ≡ Some i → AsksAt i at b → UpTo h.most b × (dead r ≡ false)
+    asked : (r : ℕ) → r < g.config.replicas → (i : Input) (b : Ballot) → opened_at w (Replica r) ≡ Some i → AsksAt i at b → UpTo h.most b × (dead r ≡ false)
     asked r lt i b o (from, inl q) = h.packets (record { from = from; to = Replica r; packet = Prepare at b }) lt (inr (o ∙ ap Some q)) refl
     asked r lt i b o (from, inr (v, q)) = h.packets (record { from = from; to = Replica r; packet = Accept at b v }) lt (inr (o ∙ ap Some q)) refl
 
-    promise_after : (r : ℕ) → r < g.replicas → dead r ≡ false → Promised h.most (promise_at old r at) (promise_at w' r at)
+    promise_after : (r : ℕ) → r < g.config.replicas → dead r ≡ false → Promised h.most (promise_at old r at) (promise_at w' r at)
     promise_after r lt live =
         ⊎_elim by_same
         (λ (q : IsEnd e (Replica r) × ((w'.replicas r).kept ≡ land land_replica (replica_row (w.replicas r)).note (w.replicas r).kept)).
@@ -106,7 +106,7 @@ module _ (g : Setting) (dead : ℕ → Bool) (old : World) (at : Place) (site lo
     -- ---- packets
 
     -- what a replica says is fine
-    says_fine : (r : ℕ) → r < g.replicas → (i : Input) → opened_at w (Replica r) ≡ Some i → (to : Node) (p : Packet) → Says (w.replicas r).kept at i p → Fine g dead old at h.most to p
+    says_fine : (r : ℕ) → r < g.config.replicas → (i : Input) → opened_at w (Replica r) ≡ Some i → (to : Node) (p : Packet) → Says (w.replicas r).kept at i p → Fine g dead old at h.most to p
     says_fine r lt i o to (Nack p b c) s = λ q. let x = s q in let live = (asked r lt i b o x.2).1 in (r, lt, live, x.1, promised_is h.most (promise_at old r at) (promise_at w r at) c (h.promises r lt live) x.0)
     says_fine r lt i o to (Prepare p b) s = absurd s
     says_fine r lt i o to (Accept p b v) s = absurd s

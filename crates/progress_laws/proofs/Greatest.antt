@@ -35,7 +35,7 @@ promised_is m old now c h e = ⊎_elim (λ same. inl (sym same ∙ e)) (λ (x : 
 module _ (g : Setting) (dead : ℕ → Bool) (old : World) (at : Place) where
   -- a live replica refuses the ballot by an old promise, or by one that is at most the greatest attempt
   abbrev IsNack : Option Ballot → Ballot → Ballot → Type 0
-  IsNack m b c = (r : ℕ) × (r < g.replicas) × (dead r ≡ false) × IsBelow b c × ((promise_at old r at ≡ Some c) ⊎ UpTo m c)
+  IsNack m b c = (r : ℕ) × (r < g.config.replicas) × (dead r ≡ false) × IsBelow b c × ((promise_at old r at ≡ Some c) ⊎ UpTo m c)
 
   -- what holds of a packet underway
   abbrev pub Fine : Option Ballot → Node → Packet → Type 0
@@ -56,7 +56,7 @@ module _ (g : Setting) (dead : ℕ → Bool) (old : World) (at : Place) where
 
   -- the ballot was refused by an old promise, which the server's round has reached
   abbrev pub IsRefusedBy : Ballot → ℕ → Type 0
-  IsRefusedBy b m = (r : ℕ) × (c : Ballot) × (r < g.replicas) × (dead r ≡ false) × (promise_at old r at ≡ Some c) × IsBelow b c × (c.round ≤ m)
+  IsRefusedBy b m = (r : ℕ) × (c : Ballot) × (r < g.config.replicas) × (dead r ≡ false) × (promise_at old r at ≡ Some c) × IsBelow b c × (c.round ≤ m)
 
   -- An attempt with the ballot was made at the place: it stands, or was refused so.
   abbrev pub IsMade : World → Ballot → Type 0

@@ -34,15 +34,15 @@ bits d a b f = grind arith
 
 module _ (g : Setting) (dead : ℕ → Bool) (w v : World) (at : Place) (n m : ℕ) (h : Refusal g dead w v at n m) where
   -- who counts at the end counted before
-  counted : (r : ℕ) → r < g.replicas → dead r ≡ false → is_from m (promise_at v r at) ≡ true → is_from n (promise_at w r at) ≡ true
+  counted : (r : ℕ) → r < g.config.replicas → dead r ≡ false → is_from m (promise_at v r at) ≡ true → is_from n (promise_at w r at) ≡ true
   counted r lt live e = grind arith
 
   -- the refuser counted, and doesn't any more
-  counts_down : sum_to (one_from dead v at m) g.replicas < sum_to (one_from dead w at n) g.replicas
+  counts_down : sum_to (one_from dead v at m) g.config.replicas < sum_to (one_from dead w at n) g.config.replicas
   counts_down =
       let gone : one_from dead v at m h.replica ≡ 0 = cond-false (dead h.replica) 0 _ h.live ∙ cond-false (is_from m (promise_at v h.replica at)) 1 0 (ap (is_from m) h.is ∙ lt-leb m h.ballot.round h.reached) in
       let there : one_from dead w at n h.replica ≡ 1 = cond-false (dead h.replica) 0 _ h.live ∙ cond-true (is_from n (promise_at w h.replica at)) 1 0 (ap (is_from n) h.was ∙ le-leb n h.ballot.round h.higher) in
-      sums_lt (one_from dead v at m) (one_from dead w at n) g.replicas h.replica h.member (omega (arith, gone, there)) (λ r lt. bits (dead r) _ _ (counted r lt))
+      sums_lt (one_from dead v at m) (one_from dead w at n) g.config.replicas h.replica h.member (omega (arith, gone, there)) (λ r lt. bits (dead r) _ _ (counted r lt))
 
 live_at_most : (dead : ℕ → Bool) (k : ℕ) → live_among dead k ≤ k
 live_at_most dead zero = omega arith
@@ -55,9 +55,9 @@ module _ (g : Setting) (d : Disks) (again : (h : List Entry) → IsRun g (openin
   abbrev IsReached : World → Type 0
   IsReached w = (h : List Entry) × IsRun g (opening d) h × (world_after g (opening d) h ≡ w)
 
-  module _ (dead : ℕ → Bool) (table : IsTable g.table) (most : Majority g.replicas (λ r. dead r ≡ false)) where
+  module _ (dead : ℕ → Bool) (table : IsTable g.config.table) (most : Majority g.config.replicas (λ r. dead r ≡ false)) where
     -- behind an interval with a refusal there are no more of them than there were promises from its round on
-    chain : (more : List (List Entry)) (w : World) (es : List Entry) (at : Place) (n : ℕ) → IsReached w → IsIdle g dead w es → IsRefusedFrom g dead w (world_after g w es) at n → sum_to (one_from dead w at n) g.replicas ≤ length more → AreIdle g dead (world_after g w es) more → ⊥
+    chain : (more : List (List Entry)) (w : World) (es : List Entry) (at : Place) (n : ℕ) → IsReached w → IsIdle g dead w es → IsRefusedFrom g dead w (world_after g w es) at n → sum_to (one_from dead w at n) g.config.replicas ≤ length more → AreIdle g dead (world_after g w es) more → ⊥
     chain [] w es at n reached one (s, m, held, refusal) few idle = let less = counts_down g dead w (world_after g w es) at n m refusal in omega (arith, less, few)
     chain (next ∷ more) w es at n (h, run, is) one (s, m, held, refusal) few (idle, rest) =
         let v = world_after g w es in
@@ -72,10 +72,10 @@ module _ (g : Setting) (d : Disks) (again : (h : List Entry) → IsRun g (openin
       ⊎_elim (λ done. done)
       (λ x. absurd (
       let w = world_after g (opening d) h in
-      let few : sum_to (one_from dead w x.0 0) g.replicas ≤ live_among dead g.replicas = sums_le (one_from dead w x.0 0) _ g.replicas (λ r _. bits (dead r) (is_from 0 (promise_at w r x.0)) true (λ _ _. refl)) in
+      let few : sum_to (one_from dead w x.0 0) g.config.replicas ≤ live_among dead g.config.replicas = sums_le (one_from dead w x.0 0) _ g.config.replicas (λ r _. bits (dead r) (is_from 0 (promise_at w r x.0)) true (λ _ _. refl)) in
       chain dead table most more w es x.0 0 (h, run, refl) idle x.1 (omega (arith, few, long)) rest))
       (first dead es table most idle)
 
 -- with more intervals than replicas there are more than live ones
 pub moves_on_by : (g : Setting) (w : World) → WorkMovesOn g w → WorkMovesOnBy g w
-moves_on_by g w moves dead table most intervals idle long = moves dead table most intervals idle (let few = live_at_most dead g.replicas in omega (arith, few, long))
+moves_on_by g w moves dead table most intervals idle long = moves dead table most intervals idle (let few = live_at_most dead g.config.replicas in omega (arith, few, long))

@@ -17,7 +17,7 @@ IfOpen n (Some p) = IsOpen n p.phase
 
 -- so it is in each proposal of the servers that are up
 abbrev pub AreOpen : Setting → World → Type 0
-AreOpen g w = (s : ℕ) → IfUp (λ (l : ServerLive). (k : ℕ) → IfOpen g.replicas (l.shards k).proposal) (w.servers s).live
+AreOpen g w = (s : ℕ) → IfUp (λ (l : ServerLive). (k : ℕ) → IfOpen g.config.replicas (l.shards k).proposal) (w.servers s).live
 
 -- what a proposal asks each replica
 abbrev pub question : Place → Ballot → Phase Batch → Packet

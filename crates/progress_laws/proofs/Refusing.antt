@@ -31,11 +31,11 @@ module _ (g : Setting) (dead : ℕ → Bool) (w : World) (air : List Sent) (es :
   -- Servers and replicas that take part are up, and each attempt at a shard of the table goes on with each such replica.
   pub record AttemptsGoOn : Type 0 where
     pub servers : SitesUp w
-    pub replicas : (r : ℕ) → r < g.replicas → dead r ≡ false → (u : Unit {0}) × ((w.replicas r).live ≡ Some u)
+    pub replicas : (r : ℕ) → r < g.config.replicas → dead r ≡ false → (u : Unit {0}) × ((w.replicas r).live ≡ Some u)
     pub open_ : AreOpen g w
     pub each :
         (s : ℕ) → s < 2 → (l : ServerLive) → (w.servers s).live ≡ Some l → (k : ℕ) → k < shards g → (p : Proposal) → (l.shards k).proposal ≡ Some p →
-        (r : ℕ) → r < g.replicas → dead r ≡ false → AttemptGoesOn s (next_of k (l.shards k)) p r
+        (r : ℕ) → r < g.config.replicas → dead r ≡ false → AttemptGoesOn s (next_of k (l.shards k)) p r
 
 -- ---- each attempt is open
 
@@ -43,10 +43,10 @@ turn_open : (g : Setting) (s : ℕ) (k : ServerKept) (l : ServerLive) → LiveOp
 turn_open g s k l h i = (turns g s k l i).opens h
 
 open_kept : (g : Setting) (w : World) (e : Entry) → AreOpen g w → AreOpen g (after g w e)
-open_kept g = lasts g (λ st. IfOpen g.replicas st.proposal) tt (turn_open g)
+open_kept g = lasts g (λ st. IfOpen g.config.replicas st.proposal) tt (turn_open g)
 
 pub every_attempt_open : (g : Setting) (d : Disks) (es : List Entry) → AreOpen g (world_after g (opening d) es)
-every_attempt_open g = after_run g (λ st. IfOpen g.replicas st.proposal) tt (turn_open g)
+every_attempt_open g = after_run g (λ st. IfOpen g.config.replicas st.proposal) tt (turn_open g)
 
 -- ---- a replica answers each question
 
@@ -64,16 +64,16 @@ replica_answers n k from at b Ended o = absurd o
 
 module _ {g : Setting} {dead : ℕ → Bool} {w : World} {air next : List Sent} {e : Entry} {es : List Entry} (step : Step g dead w air next e es) where
   -- a replica's open question is answered
-  question_moves : (s r : ℕ) (at : Place) (b : Ballot) (y : Phase Batch) → IsOpen g.replicas y → (u : Unit {0}) → (w.replicas r).live ≡ Some u → IsAsked w air (e ∷ es) s r at b y → IsAsked (after g w e) next es s r at b y ⊎ IsAnswered (after g w e) next es s r at b y
+  question_moves : (s r : ℕ) (at : Place) (b : Ballot) (y : Phase Batch) → IsOpen g.config.replicas y → (u : Unit {0}) → (w.replicas r).live ≡ Some u → IsAsked w air (e ∷ es) s r at b y → IsAsked (after g w e) next es s r at b y ⊎ IsAnswered (after g w e) next es s r at b y
   question_moves s r at b y o u up asked =
       goes step (Replica r) (Deliver (Server s) (question at b y)) asked (λ k. inl k)
       (λ end opened.
-      let a = replica_answers g.replicas (w.replicas r).kept (Server s) at b y o in
+      let a = replica_answers g.config.replicas (w.replicas r).kept (Server s) at b y o in
       inr (a.0, a.1, row_sent_to step (Replica r) end (Server s) a.0 (subst (λ (x : Out (Unit {0})). Mem (Only (Server s), a.0) x.packets) (sym (turned g w (Replica r) u (Deliver (Server s) (question at b y)) up opened)) a.2) refl))
 
   -- ---- a server's turn
 
-  module _ (h : AttemptsGoOn g dead w air (e ∷ es)) (s : ℕ) (lt : s < 2) (l : ServerLive) (up : (w.servers s).live ≡ Some l) (k : ℕ) (below : k < shards g) (r : ℕ) (is : r < g.replicas) (live : dead r ≡ false) where
+  module _ (h : AttemptsGoOn g dead w air (e ∷ es)) (s : ℕ) (lt : s < 2) (l : ServerLive) (up : (w.servers s).live ≡ Some l) (k : ℕ) (below : k < shards g) (r : ℕ) (is : r < g.config.replicas) (live : dead r ≡ false) where
     abbrev r_out : Out ServerLive
     r_out = server_row g s (w.servers s)
 
@@ -81,8 +81,8 @@ module _ {g : Setting} {dead : ℕ → Bool} {w : World} {air next : List Sent} 
     abbrev RowGoesOn : Proposal → Type 0
     RowGoesOn p = AttemptGoesOn g dead (after g w e) next es s (next_of k (r_out.live.shards k)) p r
 
-    opens_of : (p : Proposal) → (l.shards k).proposal ≡ Some p → IsOpen g.replicas p.phase
-    opens_of p q = subst (IfOpen g.replicas) q (subst (IfUp (λ (l : ServerLive). (k : ℕ) → IfOpen g.replicas (l.shards k).proposal)) up (h.open_ s) k)
+    opens_of : (p : Proposal) → (l.shards k).proposal ≡ Some p → IsOpen g.config.replicas p.phase
+    opens_of p q = subst (IfOpen g.config.replicas) q (subst (IfUp (λ (l : ServerLive). (k : ℕ) → IfOpen g.config.replicas (l.shards k).proposal)) up (h.open_ s) k)
 
     asked_all : IsEnd e (Server s) → (p : Proposal) → AsksAll g s (w.servers s).kept l k (r_out.live.shards k) p r_out.packets → RowGoesOn p
     asked_all end p all = inl (inr (row_sent_to step (Server s) end (Replica r) (question (next_of k (r_out.live.shards k)) p.ballot p.phase) (all r is) live))
@@ -159,9 +159,9 @@ more_marked (x ∷ xs) (y ∷ ys) e h = go x y (h 0) (more_marked xs ys (omega (
     go : (x y : Bool) → (Some x ≡ Some true → Some y ≡ Some true) → marked xs ≤ marked ys → marked (x ∷ xs) ≤ marked (y ∷ ys)
     go x y f le = grind arith
 
-module _ (g : Setting) (dead : ℕ → Bool) (w : World) (es : List Entry) (most : Majority g.replicas (λ r. dead r ≡ false)) (i : IsIdle g dead w es) where
+module _ (g : Setting) (dead : ℕ → Bool) (w : World) (es : List Entry) (most : Majority g.config.replicas (λ r. dead r ≡ false)) (i : IsIdle g dead w es) where
   unfinished : (s : ℕ) (l : ServerLive) → (w.servers s).live ≡ Some l → (k : ℕ) → k < shards g → (p : Proposal) → (l.shards k).proposal ≡ Some p → is_unfinished g w (Server s) ≡ true
-  unfinished s l up k below p stands = unfinished_at g w s l up k below (or_left (not (is_free (l.shards k).proposal) || (l.shards k).held) (not (is_empty (l.shards k).queue) || nat_lt (bound_of (l.shards k).learned) g.horizon) (or_left (not (is_free (l.shards k).proposal)) (l.shards k).held (ap (λ o. not (is_free o)) stands)))
+  unfinished s l up k below p stands = unfinished_at g w s l up k below (or_left (not (is_free (l.shards k).proposal) || (l.shards k).held) (not (is_empty (l.shards k).queue) || nat_lt (bound_of (l.shards k).learned) g.config.horizon) (or_left (not (is_free (l.shards k).proposal)) (l.shards k).held (ap (λ o. not (is_free o)) stands)))
 
   begins : AreOpen g w → AttemptsGoOn g dead w [] es
   begins o =
@@ -179,7 +179,7 @@ module _ (g : Setting) (dead : ℕ → Bool) (w : World) (es : List Entry) (most
   ends o = along_idle g dead (AttemptsGoOn g dead) (λ w air next e es step. attempts_go_on step) es w i (begins o)
 
   -- at the quiet end each replica that takes part is counted, so a majority is
-  no_majority : (p : Proposal) → IsOpen g.replicas p.phase → ((r : ℕ) → r < g.replicas → dead r ≡ false → HasMark r p.phase) → ⊥
+  no_majority : (p : Proposal) → IsOpen g.config.replicas p.phase → ((r : ℕ) → r < g.config.replicas → dead r ≡ false → HasMark r p.phase) → ⊥
   no_majority p = grind (arith, more_marked, slice_get_within)
 
   pub no_attempt : AreOpen g w → (s : ℕ) → s < 2 → (l : ServerLive) → (v.servers s).live ≡ Some l → (k : ℕ) → k < shards g → (l.shards k).proposal ≡ None
@@ -187,9 +187,9 @@ module _ (g : Setting) (dead : ℕ → Bool) (w : World) (es : List Entry) (most
     where
       go : (x : Option Proposal) → (l.shards k).proposal ≡ x → x ≡ None
       go None e = refl
-      go (Some p) e = absurd (no_majority p (subst (IfOpen g.replicas) e (subst (IfUp (λ (l : ServerLive). (k : ℕ) → IfOpen g.replicas (l.shards k).proposal)) up ((ends o).open_ s) k)) counted)
+      go (Some p) e = absurd (no_majority p (subst (IfOpen g.config.replicas) e (subst (IfUp (λ (l : ServerLive). (k : ℕ) → IfOpen g.config.replicas (l.shards k).proposal)) up ((ends o).open_ s) k)) counted)
         where
-          counted : (r : ℕ) → r < g.replicas → dead r ≡ false → HasMark r p.phase
+          counted : (r : ℕ) → r < g.config.replicas → dead r ≡ false → HasMark r p.phase
           counted r is live = only ((ends o).each s lt l up k below p e r is live)
             where
               only : AttemptGoesOn g dead v [] [] s (next_of k (l.shards k)) p r → HasMark r p.phase

@@ -49,7 +49,7 @@ limits_end : (g : Setting) (es : List Entry) (w : World) → IsWithinLimits g w 
 limits_end g [] w l = l
 limits_end g (e ∷ es) w l = limits_end g es (after g w e) l.1
 
-module _ (g : Setting) (dead : ℕ → Bool) (table : IsTable g.table) (w : World) (es : List Entry) (i : IsIdle g dead w es) (own : HasOwnTokens g w) (lines : HasLines g w) where
+module _ (g : Setting) (dead : ℕ → Bool) (table : IsTable g.config.table) (w : World) (es : List Entry) (i : IsIdle g dead w es) (own : HasOwnTokens g w) (lines : HasLines g w) where
   abbrev v : World
   v = world_after g w es
 

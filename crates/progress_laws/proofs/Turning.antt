@@ -68,11 +68,11 @@ module _ (g : Setting) (site : ℕ) (k : ServerKept) (l : ServerLive) where
 
   -- each attempt is open
   abbrev pub LiveOpen : ServerLive → Type 0
-  LiveOpen m = (n : ℕ) → IfOpen g.replicas (m.shards n).proposal
+  LiveOpen m = (n : ℕ) → IfOpen g.config.replicas (m.shards n).proposal
 
   -- the question goes to each replica
   abbrev pub AsksAll : ℕ → ShardState → Proposal → List (To × Packet) → Type 0
-  AsksAll n st p ps = (r : ℕ) → r < g.replicas → Mem (Only (Replica r), question (next_of n st) p.ballot p.phase) ps
+  AsksAll n st p ps = (r : ℕ) → r < g.config.replicas → Mem (Only (Replica r), question (next_of n st) p.ballot p.phase) ps
 
   -- the attempt goes on
   abbrev pub IsKept : ℕ → ShardState → Proposal → Type 0
@@ -101,18 +101,18 @@ module _ (g : Setting) (site : ℕ) (k : ServerKept) (l : ServerLive) where
   gone : (s : ℕ) (st : ShardState) (ps : List (To × Packet)) → st.proposal ≡ None → Follows s st ps
   gone s st ps e p q = none_some p (sym e ∙ q)
 
-  stood : LiveOpen l → (s : ℕ) (p : Proposal) → (l.shards s).proposal ≡ Some p → IsOpen g.replicas p.phase
-  stood h s p e = subst (IfOpen g.replicas) e (h s)
+  stood : LiveOpen l → (s : ℕ) (p : Proposal) → (l.shards s).proposal ≡ Some p → IsOpen g.config.replicas p.phase
+  stood h s p e = subst (IfOpen g.config.replicas) e (h s)
 
   -- one shard changes
-  sets : (i : Input) (ps : List (To × Packet)) (round s : ℕ) (st : ShardState) → l.round ≤ round → Turned i round s (l.shards s) st → AllAsk (set_at l.shards s st) ps → Follows s st ps → (LiveOpen l → IfOpen g.replicas st.proposal) → Turns i (record { note = None; packets = ps; live = record { round = round; shards = set_at l.shards s st } })
+  sets : (i : Input) (ps : List (To × Packet)) (round s : ℕ) (st : ShardState) → l.round ≤ round → Turned i round s (l.shards s) st → AllAsk (set_at l.shards s st) ps → Follows s st ps → (LiveOpen l → IfOpen g.config.replicas st.proposal) → Turns i (record { note = None; packets = ps; live = record { round = round; shards = set_at l.shards s st } })
   sets i ps round s st le turned asks follows opens =
       record {
         rounds = le;
         each = at_set (λ n (c : ShardState). Turned i round n (l.shards n) c) l.shards s st turned (same i round);
         asks = asks;
         follows = at_set (λ n (c : ShardState). Follows n c ps) l.shards s st follows (λ n. still n (l.shards n) ps refl refl);
-        opens = λ h. at_set (λ n (c : ShardState). IfOpen g.replicas c.proposal) l.shards s st (opens h) h;
+        opens = λ h. at_set (λ n (c : ShardState). IfOpen g.config.replicas c.proposal) l.shards s st (opens h) h;
       }
 
   -- none does
@@ -122,7 +122,7 @@ module _ (g : Setting) (site : ℕ) (k : ServerKept) (l : ServerLive) where
   replies_ask : (f : ℕ → ShardState) (vs : List Batch) (xs : List Insert) → AllAsk f (replies g site vs xs)
   replies_ask f vs xs = replies_each g site (λ (a : To × Packet). Asks f a.1) vs xs (λ x a m e t. tt)
 
-  question_asks : (f : ℕ → ShardState) (p : Packet) → Asks f p → AllAsk f (to_replicas g.replicas p)
+  question_asks : (f : ℕ → ShardState) (p : Packet) → Asks f p → AllAsk f (to_replicas g.config.replicas p)
   question_asks f p h = replicas_each g site (λ (a : To × Packet). Asks f a.1) p (λ i lt. h)
 
   learned : (i : Input) → teaches i ≡ true → (ps : List (To × Packet)) (s : ℕ) (v : Batch) → AllAsk (set_at l.shards s (learns g site (l.shards s) v)) ps → Turns i (record { note = None; packets = ps; live = record { round = l.round; shards = set_at l.shards s (learns g site (l.shards s) v) } })
@@ -137,21 +137,21 @@ module _ (g : Setting) (site : ℕ) (k : ServerKept) (l : ServerLive) where
 
   draws : (s : ℕ) → may_propose g (l.shards s) ≡ true → Turns Own (owns g site k l (Some s))
   draws s may =
-      let parts = and_parts (is_free (l.shards s).proposal && not (l.shards s).held) ((not (is_empty (l.shards s).queue) || nat_lt (bound_of (l.shards s).learned) g.horizon) && is_below_limit (length (l.shards s).learned)) may in
+      let parts = and_parts (is_free (l.shards s).proposal && not (l.shards s).held) ((not (is_empty (l.shards s).queue) || nat_lt (bound_of (l.shards s).learned) g.config.horizon) && is_below_limit (length (l.shards s).learned)) may in
       let free = is_none (l.shards s).proposal (and_parts (is_free (l.shards s).proposal) (not (l.shards s).held) parts.0).0 in
-      let left = (and_parts (not (is_empty (l.shards s).queue) || nat_lt (bound_of (l.shards s).learned) g.horizon) (is_below_limit (length (l.shards s).learned)) parts.1).0 in
-      let st : ShardState = record (l.shards s) { proposal = Some (record { ballot = drawn; own = record { bound = g.horizon; inserts = take g.batch (l.shards s).queue }; phase = Promising (nobody g.replicas) None }) } in
-      sets Own (to_replicas g.replicas (Prepare (next_of s (l.shards s)) drawn)) (suc l.round) s st (omega arith)
+      let left = (and_parts (not (is_empty (l.shards s).queue) || nat_lt (bound_of (l.shards s).learned) g.config.horizon) (is_below_limit (length (l.shards s).learned)) parts.1).0 in
+      let st : ShardState = record (l.shards s) { proposal = Some (record { ballot = drawn; own = record { bound = g.config.horizon; inserts = take g.config.batch (l.shards s).queue }; phase = Promising (nobody g.config.replicas) None }) } in
+      sets Own (to_replicas g.config.replicas (Prepare (next_of s (l.shards s)) drawn)) (suc l.round) s st (omega arith)
       (inl ((refl, λ x m. m), inr (inl (drawn, ap ballot_in free, left, refl, refl))))
       (question_asks (set_at l.shards s st) (Prepare (next_of s (l.shards s)) drawn) (stands_at (next_of s (l.shards s)) st drawn refl refl))
-      (λ p q. inl (λ r lt. subst (λ (x : Proposal). Mem (Only (Replica r), question (next_of s (l.shards s)) x.ballot x.phase) (to_replicas g.replicas (Prepare (next_of s (l.shards s)) drawn))) (some_same _ p q) (mem_to r 0 g.replicas (Prepare (next_of s (l.shards s)) drawn) (omega arith) (omega arith))))
-      (λ h. (length-replicate g.replicas false, nobody_open g.replicas))
+      (λ p q. inl (λ r lt. subst (λ (x : Proposal). Mem (Only (Replica r), question (next_of s (l.shards s)) x.ballot x.phase) (to_replicas g.config.replicas (Prepare (next_of s (l.shards s)) drawn))) (some_same _ p q) (mem_to r 0 g.config.replicas (Prepare (next_of s (l.shards s)) drawn) (omega arith) (omega arith))))
+      (λ h. (length-replicate g.config.replicas false, nobody_open g.config.replicas))
 
   -- an attempt goes on to a phase
   abbrev with_phase : Place → Proposal → Phase Batch → ShardState
   with_phase at p phase = record (l.shards at.shard) { proposal = Some (record { ballot = p.ballot; own = p.own; phase = phase }) }
 
-  goes : (i : Input) (at : Place) (p : Proposal) (phase : Phase Batch) (ps : List (To × Packet)) → (l.shards at.shard).proposal ≡ Some p → (IsOpen g.replicas p.phase → IsOpen g.replicas phase) → AllAsk (set_at l.shards at.shard (with_phase at p phase)) ps → Follows at.shard (with_phase at p phase) ps → Turns i (record { note = None; packets = ps; live = goes_on g site k l at.shard (l.shards at.shard) p phase })
+  goes : (i : Input) (at : Place) (p : Proposal) (phase : Phase Batch) (ps : List (To × Packet)) → (l.shards at.shard).proposal ≡ Some p → (IsOpen g.config.replicas p.phase → IsOpen g.config.replicas phase) → AllAsk (set_at l.shards at.shard (with_phase at p phase)) ps → Follows at.shard (with_phase at p phase) ps → Turns i (record { note = None; packets = ps; live = goes_on g site k l at.shard (l.shards at.shard) p phase })
   goes i at p phase ps e opens asks follows = sets i ps l.round at.shard (with_phase at p phase) (omega arith) (inl ((refl, λ x m. m), inl (sym (ap ballot_in e), λ h. h))) asks follows (λ h. opens (stood h at.shard p e))
 
   -- it goes on as it was
@@ -162,18 +162,18 @@ module _ (g : Setting) (site : ℕ) (k : ServerKept) (l : ServerLive) where
   abbrev IsPromiseTurn : Phase Batch → Phase Batch → Option Batch → Type 0
   IsPromiseTurn was phase o = ((o ≡ None) × PhaseGoes was phase) ⊎ ((v : Batch) × (marks : List Bool) × (o ≡ Some v) × (phase ≡ Accepting v marks))
 
-  pub promised_turns : (i : Input) (at : Place) (p : Proposal) → (l.shards at.shard).proposal ≡ Some p → next_of at.shard (l.shards at.shard) ≡ at → (phase : Phase Batch) (o : Option Batch) → IsPromiseTurn p.phase phase o → (IsOpen g.replicas p.phase → IsOpen g.replicas phase) → Turns i (promised g site k l at (l.shards at.shard) p (phase, o))
+  pub promised_turns : (i : Input) (at : Place) (p : Proposal) → (l.shards at.shard).proposal ≡ Some p → next_of at.shard (l.shards at.shard) ≡ at → (phase : Phase Batch) (o : Option Batch) → IsPromiseTurn p.phase phase o → (IsOpen g.config.replicas p.phase → IsOpen g.config.replicas phase) → Turns i (promised g site k l at (l.shards at.shard) p (phase, o))
   promised_turns i at p e next phase None (inl h) opens = goes i at p phase [] e opens tt (keeps at p phase [] e h.1)
   promised_turns i at p e next phase None (inr (v, marks, is, h)) opens = none_some v is
   promised_turns i at p e next phase (Some v) (inl h) opens = none_some v (sym h.0)
   promised_turns i at p e next phase (Some v) (inr (u, marks, is, h)) opens =
-      goes i at p phase (to_replicas g.replicas (Accept at p.ballot v)) e opens
+      goes i at p phase (to_replicas g.config.replicas (Accept at p.ballot v)) e opens
       (question_asks (set_at l.shards at.shard (with_phase at p phase)) (Accept at p.ballot v) (stands_at at (with_phase at p phase) p.ballot next refl))
-      (λ x q. inl (λ r lt. subst (λ (y : Proposal). Mem (Only (Replica r), question (next_of at.shard (l.shards at.shard)) y.ballot y.phase) (to_replicas g.replicas (Accept at p.ballot v))) (some_same _ x q)
-      (subst (λ (y : Phase Batch). Mem (Only (Replica r), question (next_of at.shard (l.shards at.shard)) p.ballot y) (to_replicas g.replicas (Accept at p.ballot v))) (sym (h ∙ ap (λ z. Accepting z marks) (some_same u v (sym is))))
-      (subst (λ (y : Place). Mem (Only (Replica r), Accept y p.ballot v) (to_replicas g.replicas (Accept at p.ballot v))) (sym next) (mem_to r 0 g.replicas (Accept at p.ballot v) (omega arith) (omega arith))))))
+      (λ x q. inl (λ r lt. subst (λ (y : Proposal). Mem (Only (Replica r), question (next_of at.shard (l.shards at.shard)) y.ballot y.phase) (to_replicas g.config.replicas (Accept at p.ballot v))) (some_same _ x q)
+      (subst (λ (y : Phase Batch). Mem (Only (Replica r), question (next_of at.shard (l.shards at.shard)) p.ballot y) (to_replicas g.config.replicas (Accept at p.ballot v))) (sym (h ∙ ap (λ z. Accepting z marks) (some_same u v (sym is))))
+      (subst (λ (y : Place). Mem (Only (Replica r), Accept y p.ballot v) (to_replicas g.config.replicas (Accept at p.ballot v))) (sym next) (mem_to r 0 g.config.replicas (Accept at p.ballot v) (omega arith) (omega arith))))))
 
-  accepted_turns : (i : Input) → teaches i ≡ true → (at : Place) (p : Proposal) → (l.shards at.shard).proposal ≡ Some p → (phase : Phase Batch) (o : Option Batch) → (o ≡ None → PhaseGoes p.phase phase) → (o ≡ None → IsOpen g.replicas p.phase → IsOpen g.replicas phase) → Turns i (accepted g site k l at (l.shards at.shard) p phase o)
+  accepted_turns : (i : Input) → teaches i ≡ true → (at : Place) (p : Proposal) → (l.shards at.shard).proposal ≡ Some p → (phase : Phase Batch) (o : Option Batch) → (o ≡ None → PhaseGoes p.phase phase) → (o ≡ None → IsOpen g.config.replicas p.phase → IsOpen g.config.replicas phase) → Turns i (accepted g site k l at (l.shards at.shard) p phase o)
   accepted_turns i tells at p e phase None follows opens = goes i at p phase [] e (opens refl) tt (keeps at p phase [] e (follows refl))
   accepted_turns i tells at p e phase (Some v) follows opens = learned i tells ((Only (Server (1 - site)), Chosen at v) ∷ replies g site ((l.shards at.shard).learned ++ v ∷ []) (l.shards at.shard).queue) at.shard v (tt, replies_ask (set_at l.shards at.shard (learns g site (l.shards at.shard) v)) ((l.shards at.shard).learned ++ v ∷ []) (l.shards at.shard).queue)
 
@@ -204,7 +204,7 @@ module _ (g : Setting) (site : ℕ) (k : ServerKept) (l : ServerLive) where
             sets (Deliver from (packet.Insert x)) [] l.round s (record (l.shards s) { queue = (l.shards s).queue ++ x ∷ [] }) (omega arith) (inl ((refl, λ y m. mem_left y (l.shards s).queue (x ∷ []) m), inl (refl, λ h. h))) tt
             (still s (record (l.shards s) { queue = (l.shards s).queue ++ x ∷ [] }) [] refl refl) (λ h. h s);
         learns_of = λ from at v e. learned (Deliver from (Chosen at v)) refl (replies g site ((l.shards at.shard).learned ++ v ∷ []) (l.shards at.shard).queue) at.shard v (replies_ask (set_at l.shards at.shard (learns g site (l.shards at.shard) v)) ((l.shards at.shard).learned ++ v ∷ []) (l.shards at.shard).queue);
-        promises = λ r at b o p e c. promised_turns (Deliver (Replica r) (Promise at b o)) at p e (sym (current_at g at b (l.shards at.shard) p c).0) (on_promise p.own p.phase r o).0 (on_promise p.own p.phase r o).1 (promise_goes p.own p.phase r o) (promise_open g.replicas p.own p.phase r o);
-        accepts = λ r at b p e c. accepted_turns (Deliver (Replica r) (Accepted at b)) refl at p e (on_accepted p.phase r).0 (on_accepted p.phase r).1 (accepted_goes p.phase r) (λ n o. accepted_open g.replicas p.phase r o n);
+        promises = λ r at b o p e c. promised_turns (Deliver (Replica r) (Promise at b o)) at p e (sym (current_at g at b (l.shards at.shard) p c).0) (on_promise p.own p.phase r o).0 (on_promise p.own p.phase r o).1 (promise_goes p.own p.phase r o) (promise_open g.config.replicas p.own p.phase r o);
+        accepts = λ r at b p e c. accepted_turns (Deliver (Replica r) (Accepted at b)) refl at p e (on_accepted p.phase r).0 (on_accepted p.phase r).1 (accepted_goes p.phase r) (λ n o. accepted_open g.config.replicas p.phase r o n);
         refuses = λ r at b above p e c. let is = current_at g at b (l.shards at.shard) p c in nacked_turns r at b above p e (sym is.0, sym is.1);
       })

@@ -23,15 +23,15 @@ some_waits (x ∷ xs) e = (x, inl refl)
 
 -- where an insert waits something is left to do
 pub waits_left : (g : Setting) (st : ShardState) (x : Insert) → Mem x st.queue → is_left g st ≡ true
-waits_left g st x m = or_left (not (is_empty st.queue)) (nat_lt (bound_of st.learned) g.horizon) (some_empty st.queue x m)
+waits_left g st x m = or_left (not (is_empty st.queue)) (nat_lt (bound_of st.learned) g.config.horizon) (some_empty st.queue x m)
 
 -- and what is left stays so where nothing is learned
 pub still_left : (g : Setting) (st now : ShardState) → Same st now → is_left g st ≡ true → is_left g now ≡ true
 still_left g st now same e =
     ⊎_elim
     (λ q. let x = some_waits st.queue q in waits_left g now x.0 (same.1 x.0 x.1))
-    (λ b. or_right (not (is_empty now.queue)) (nat_lt (bound_of now.learned) g.horizon) (ap (λ vs. nat_lt (bound_of vs) g.horizon) same.0 ∙ b))
-    (or_cases (not (is_empty st.queue)) (nat_lt (bound_of st.learned) g.horizon) e)
+    (λ b. or_right (not (is_empty now.queue)) (nat_lt (bound_of now.learned) g.config.horizon) (ap (λ vs. nat_lt (bound_of vs) g.config.horizon) same.0 ∙ b))
+    (or_cases (not (is_empty st.queue)) (nat_lt (bound_of st.learned) g.config.horizon) e)
 
 module _ (g : Setting) (site : ℕ) (k : ServerKept) (l : ServerLive) where
   -- an insert that comes is answered, or inserts wait in its shard

@@ -22,20 +22,20 @@ live_among dead (suc n) = (if dead n then 0 else 1) + live_among dead n
 -- where everything was done before them.
 abbrev pub WorkMovesOn : Setting → World → Type 0
 WorkMovesOn g w =
-    (dead : ℕ → Bool) → IsTable g.table → Majority g.replicas (λ r. dead r ≡ false) →
-    (intervals : List (List Entry)) → AreIdle g dead w intervals → live_among dead g.replicas < length intervals → IsAtRest g w
+    (dead : ℕ → Bool) → IsTable g.config.table → Majority g.config.replicas (λ r. dead r ≡ false) →
+    (intervals : List (List Entry)) → AreIdle g dead w intervals → live_among dead g.config.replicas < length intervals → IsAtRest g w
 
 -- so it is with more intervals than there are replicas
 abbrev pub WorkMovesOnBy : Setting → World → Type 0
 WorkMovesOnBy g w =
-    (dead : ℕ → Bool) → IsTable g.table → Majority g.replicas (λ r. dead r ≡ false) →
-    (intervals : List (List Entry)) → AreIdle g dead w intervals → g.replicas < length intervals → IsAtRest g w
+    (dead : ℕ → Bool) → IsTable g.config.table → Majority g.config.replicas (λ r. dead r ≡ false) →
+    (intervals : List (List Entry)) → AreIdle g dead w intervals → g.config.replicas < length intervals → IsAtRest g w
 
 -- ---- why: each such interval ends with a server held, by a promise that is older than the interval
 
 -- inserts wait in the shard, or its bound is below the horizon
 abbrev pub is_left : Setting → ShardState → Bool
-is_left g st = not (is_empty st.queue) || nat_lt (bound_of st.learned) g.horizon
+is_left g st = not (is_empty st.queue) || nat_lt (bound_of st.learned) g.config.horizon
 
 -- the shard's next slot
 abbrev pub next_of : ℕ → ShardState → Place
@@ -62,14 +62,14 @@ promise_at w r at = (cell_at (w.replicas r).kept at).promised
 -- else promised in between promised a round below m.
 pub record Refusal (g : Setting) (dead : ℕ → Bool) (w v : World) (at : Place) (n m : ℕ) : Type 0 where
   pub replica : ℕ
-  pub member : replica < g.replicas
+  pub member : replica < g.config.replicas
   pub live : dead replica ≡ false
   pub ballot : Ballot
   pub was : promise_at w replica at ≡ Some ballot
   pub is : promise_at v replica at ≡ Some ballot
   pub higher : n ≤ ballot.round
   pub reached : ballot.round < m
-  pub others : (r : ℕ) → r < g.replicas → dead r ≡ false → (promise_at v r at ≡ promise_at w r at) ⊎ ((b : Ballot) → promise_at v r at ≡ Some b → b.round < m)
+  pub others : (r : ℕ) → r < g.config.replicas → dead r ≡ false → (promise_at v r at ≡ promise_at w r at) ⊎ ((b : Ballot) → promise_at v r at ≡ Some b → b.round < m)
 
 abbrev pub IsRefusedFrom : (g : Setting) (dead : ℕ → Bool) (w v : World) (at : Place) (n : ℕ) → Type 0
 IsRefusedFrom g dead w v at n = (s : ℕ) × (m : ℕ) × IsHeldAt g v s at m × Refusal g dead w v at n m
@@ -78,13 +78,13 @@ IsRefusedFrom g dead w v at n = (s : ℕ) × (m : ℕ) × IsHeldAt g v s at m ×
 -- next slot, by a promise older than the interval.
 abbrev pub RestOrRefused : Setting → World → Type 0
 RestOrRefused g w =
-    (dead : ℕ → Bool) (es : List Entry) → IsTable g.table → Majority g.replicas (λ r. dead r ≡ false) → IsIdle g dead w es →
+    (dead : ℕ → Bool) (es : List Entry) → IsTable g.config.table → Majority g.config.replicas (λ r. dead r ≡ false) → IsIdle g dead w es →
     IsAtRest g w ⊎ ((at : Place) × IsRefusedFrom g dead w (world_after g w es) at 0)
 
 -- So it is in each shard in which a server has something left at the end.
 abbrev pub LeftIsRefused : Setting → World → Type 0
 LeftIsRefused g w =
-    (dead : ℕ → Bool) (es : List Entry) → IsTable g.table → Majority g.replicas (λ r. dead r ≡ false) → IsIdle g dead w es →
+    (dead : ℕ → Bool) (es : List Entry) → IsTable g.config.table → Majority g.config.replicas (λ r. dead r ≡ false) → IsIdle g dead w es →
     (s : ℕ) → s < 2 → (l : ServerLive) → ((world_after g w es).servers s).live ≡ Some l → (k : ℕ) → k < shards g → is_left g (l.shards k) ≡ true →
     IsRefusedFrom g dead w (world_after g w es) (next_of k (l.shards k)) 0
 
@@ -92,5 +92,5 @@ LeftIsRefused g w =
 -- the first drew in it: so no promise does it twice.
 abbrev pub HeldIsRefused : Setting → World → Type 0
 HeldIsRefused g w =
-    (dead : ℕ → Bool) (es : List Entry) → IsTable g.table → Majority g.replicas (λ r. dead r ≡ false) → IsIdle g dead w es →
+    (dead : ℕ → Bool) (es : List Entry) → IsTable g.config.table → Majority g.config.replicas (λ r. dead r ≡ false) → IsIdle g dead w es →
     (s n : ℕ) (at : Place) → IsHeldAt g w s at n → IsRefusedFrom g dead w (world_after g w es) at n

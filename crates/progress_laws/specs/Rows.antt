@@ -50,7 +50,7 @@ pub record CarriesOnce : Type 0 where
 
 -- no clicks and no joiners; the one shard's bound is to reach 1
 abbrev pub three : Setting
-three = record { queries = []; clicks = []; horizon = 1; joiners = 0; table = (record { start = 0; count = 1 }) ∷ []; batch = 1; replicas = 3 }
+three = record { queries = []; clicks = []; config = record { horizon = 1; joiners = 0; table = (record { start = 0; count = 1 }) ∷ []; batch = 1; replicas = 3 } }
 
 abbrev pub all_live : ℕ → Bool
 all_live r = false

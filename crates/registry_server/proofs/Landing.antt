@@ -1,7 +1,7 @@
 -- What a server over its disk stands for.
 use Rattle.std.proofs.Common.{◌≡◌, ◌⊎◌, inl, inr, ⊎_elim, ℕ, ◌+◌, ◌==◌, Bool, true, false, cond, List, Option, Some, None, refl, sym, ap, ◌∙◌, subst}
 use Rattle.std.specs.Prelude.{is_some, option_map}
-use Rattle.registry_server.proofs.Words.{none_of, LAST_EPOCH, cond-true, true≢false, KeepsOr, IsLeft, JournalState, Bytes, Input, Start, Setting, record_of, Reads, IsJunk, NodeFault, Config, IsOf, ServerKept, ServerLive, Stands, note_of, SiteKept, RegistrarView, ServesSite, Knows, KnowsAs, landed, site_of, Turn, ServerCore, ServerNote, ServerState, recorded, Holds, StandsAt, StandsBy, is_spent_at, spent_at, IsNotPrepared}
+use Rattle.registry_server.proofs.Words.{none_of, LAST_EPOCH, cond-true, true≢false, KeepsOr, IsLeft, JournalState, Bytes, Input, Start, Setting, record_of, Reads, IsJunk, NodeFault, Config, ServerKept, ServerLive, Stands, note_of, SiteKept, RegistrarView, ServesSite, Knows, KnowsAs, landed, site_of, Turn, ServerCore, ServerNote, ServerState, recorded, Holds, StandsAt, StandsBy, is_spent_at, spent_at, IsNotPrepared}
 use Rattle.air_bus.specs.declared.entry.Input.TheVariants as bytes
 use Rattle.site_node.specs.declared.kind.NodeFault.TheVariants as fault
 use Rattle.registry_server.specs.declared.turn.ServerNote.TheVariants as notes
@@ -27,11 +27,11 @@ moved site (Some r) epoch image state v s o none at = absurd (cc none)
 
 -- the numbers that its core was made of are those of the setting
 pub config_is : (site : ℕ) (doubt : Option (List ℕ)) (epoch : ℕ) (image : List ℕ → Type 0) (state : JournalState) (v : RegistrarView) (s : ServerState) (core : ServerCore) (config : Config) → StandsAt site doubt epoch image state v s → core ≡ v.core → config ≡ core.station.config
-    → IsOf config s.setting
+    → s.setting.config ≡ config
 config_is site doubt epoch image state v s core config at same is =
-    subst (λ (c : Config). IsOf c s.setting) (sym (is ∙ ap (λ (x : ServerCore). x.station.config) same)) (go doubt at.by)
+    go doubt at.by ∙ sym (is ∙ ap (λ (x : ServerCore). x.station.config) same)
   where
-    go : (d : Option (List ℕ)) → StandsBy d epoch image state v s → IsOf v.core.station.config s.setting
+    go : (d : Option (List ℕ)) → StandsBy d epoch image state v s → s.setting.config ≡ v.core.station.config
     go None by = by.1.serves.setting
     go (Some r) by = by.2.setting
 
@@ -60,7 +60,7 @@ knows_up false core g k l e stands = absurd (cc e)
 pub keeps_knows : (core : ServerCore) (v : RegistrarView) (g : Setting) (k : SiteKept) (next : ServerLive) (turn : Turn) → site_of core ≡ k.site → site_of v.core ≡ site_of core → v.up ≡ true → Stands v.core g (landed turn k.disk) next
     → Knows v g (record { site = k.site; disk = landed turn k.disk }) (Some next)
 keeps_knows core v g k next turn site stays up stands = record {
-  serves = record { site = stays ∙ site; setting = stands.numbers };
+  serves = record { site = stays ∙ site; setting = stands.config };
   by = knows_up v.up v.core g (landed turn k.disk) next up stands;
 }
 

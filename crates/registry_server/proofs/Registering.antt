@@ -98,7 +98,7 @@ module _ (old new : ServerCore) (epoch : ℕ) (turn : Turn) where
   pub fit : (i : Input) → IsSpelledCore old → IsInput i → MayRaise epoch i → Decides old new epoch i turn → IsFit
   fit Start so is low d =
       let k : ServerKept = record { epoch = epoch } in
-      let goes = start_goes so.setting k d so.stands.numbers refl in
+      let goes = start_goes so.setting k d so.stands.config refl in
       fit_by so.setting k (server_start k) so.plan d.site goes tt (start_ok k low) (subst (IsNextNote epoch) (sym (d.begins refl k refl).noted) (refl, low))
   fit Own so is low d = other_fit Own (λ s. absurd (cc s)) so is d
   fit Tick so is low d = other_fit Tick (λ s. absurd (cc s)) so is d

@@ -1,11 +1,7 @@
 -- Packets, put behind one another.
 use Rattle.std.proofs.Common.{◌≡◌, ℕ, suc, ◌+◌, ◌-◌, ◌<◌, ◌≤◌, List, [], ◌∷◌, ◌++◌, length, take, get_or, refl, sym, ap, ◌∙◌, Some, None, cond, not, is_some, arith}
 use Rattle.std.specs.Prelude.{Option, option_map}
-use Rattle.registry_server.proofs.Words.{cons_option, map-append, append_assoc, append-nil, take_more, Insert, Batch, Answer, replay, answered, left_of, Packet, Node, Replica, To, Only, Setting, Station, IsOf, setting, Addressed, to_from, reply, reply_if, replies, keep_if, unanswered, sent, each_reply}
-
--- a station's setting has its numbers
-pub of_station : (t : Station) (g : Setting) → IsOf t.config (setting t g)
-of_station t g = record { horizon = refl; joiners = refl; table = refl; batch = refl; replicas = refl }
+use Rattle.registry_server.proofs.Words.{cons_option, map-append, append_assoc, append-nil, take_more, Insert, Batch, Answer, replay, answered, left_of, Packet, Node, Replica, To, Only, Setting, Addressed, to_from, reply, reply_if, replies, keep_if, unanswered, sent, each_reply}
 
 pub sent_push : (ps : List (Node × Packet)) (p : Node × Packet) → sent (ps ++ p ∷ []) ≡ sent ps ++ (Only p.0, p.1) ∷ []
 sent_push ps p = map-append (λ (q : Node × Packet). (Only q.0, q.1)) ps (p ∷ [])

@@ -140,13 +140,13 @@ module _ (g : Setting) (site : ℕ) (plan : IsSpelledPlan g site) where
         let ballot : IsBallot (record { round = suc l.round; epoch = k.epoch; site = site }) = record { round = round_is; epoch = live.epoch; site = plan.site } in
         record {
           quiet = refl;
-          packets = to_ok 0 g.replicas _ (record { shard = shard_is; slot = slot_is }, ballot);
+          packets = to_ok 0 g.config.replicas _ (record { shard = shard_is; slot = slot_is }, ballot);
           live =
               record {
                 epoch = live.epoch;
                 round = round_is;
                 each =
-                    at_set (λ m x. IsSpelledShard x) l.shards s (record st { proposal = Some (record { ballot = record { round = suc l.round; epoch = k.epoch; site = site }; own = record { bound = g.horizon; inserts = take g.batch st.queue }; phase = Promising (nobody g.replicas) None }) })
+                    at_set (λ m x. IsSpelledShard x) l.shards s (record st { proposal = Some (record { ballot = record { round = suc l.round; epoch = k.epoch; site = site }; own = record { bound = g.config.horizon; inserts = take g.config.batch st.queue }; phase = Promising (nobody g.config.replicas) None }) })
                     (record { learned = is.learned; queue = is.queue; proposal = record { slot = slot_is; ballot = ballot; own = own_ok st.queue is.queue; phase = tt } })
                     live.each;
               };
@@ -157,8 +157,8 @@ module _ (g : Setting) (site : ℕ) (plan : IsSpelledPlan g site) where
         each_take (suc n) [] e = tt
         each_take (suc n) (x ∷ xs) e = (e.0, each_take n xs e.1)
 
-        own_ok : (xs : List Insert) → Each IsInsert xs → IsBatch (record { bound = g.horizon; inserts = take g.batch xs })
-        own_ok xs e = record { bound = plan.horizon; count = (let few = plan.batch in let long = length-take g.batch xs in omega arith); inserts = each_take g.batch xs e }
+        own_ok : (xs : List Insert) → Each IsInsert xs → IsBatch (record { bound = g.config.horizon; inserts = take g.config.batch xs })
+        own_ok xs e = record { bound = plan.horizon; count = (let few = plan.batch in let long = length-take g.config.batch xs in omega arith); inserts = each_take g.config.batch xs e }
 
     owns_ok : is_below_limit l.round ≡ true → (o : Option ℕ) → ((s : ℕ) → o ≡ Some s → (may_propose g (l.shards s) ≡ true) × (s < shards g)) → IsSpelledOut k (owns g site k l o)
     owns_ok low None first = idle_ok
@@ -175,7 +175,7 @@ module _ (g : Setting) (site : ℕ) (plan : IsSpelledPlan g site) where
 
     accept_ok : (at : Place) (b : Ballot) (o : Option Batch) → IsPlace at → IsBallot b → IfSome o IsBatch → Sends (accept_if g site k l at b o)
     accept_ok at b None ia ib io = tt
-    accept_ok at b (Some v) ia ib io = to_ok 0 g.replicas (packet.Accept at b v) (ia, ib, io)
+    accept_ok at b (Some v) ia ib io = to_ok 0 g.config.replicas (packet.Accept at b v) (ia, ib, io)
 
     gets_promise_ok : (r : ℕ) (at : Place) (b : Ballot) (prior : Option (Ballot × Batch)) (o : Option Proposal) → IsPlace at → IsPrior prior → IfSome o (IsSpelledProposal (length (l.shards at.shard).learned)) → IsSpelledOut k (gets_promise g site k l r at b prior (l.shards at.shard) o)
     gets_promise_ok r at b prior None ia ip is = idle_ok
@@ -224,8 +224,8 @@ module _ (g : Setting) (site : ℕ) (plan : IsSpelledPlan g site) where
         (λ _. idle_ok)
 
     phase_ok : (at : Place) (b : Ballot) (phase : Phase Batch) → IsPlace at → IsBallot b → IsSpelledPhase phase → Sends (of_phase g site k l at b phase)
-    phase_ok at b (Promising marks best) ia ib ip = to_ok 0 g.replicas (packet.Prepare at b) (ia, ib)
-    phase_ok at b (Accepting v marks) ia ib ip = to_ok 0 g.replicas (packet.Accept at b v) (ia, ib, ip)
+    phase_ok at b (Promising marks best) ia ib ip = to_ok 0 g.config.replicas (packet.Prepare at b) (ia, ib)
+    phase_ok at b (Accepting v marks) ia ib ip = to_ok 0 g.config.replicas (packet.Accept at b v) (ia, ib, ip)
     phase_ok at b Ended ia ib ip = tt
 
     again_ok : (s : ℕ) (o : Option Proposal) → s < 16 → IfSome o (IsSpelledProposal (length (l.shards s).learned)) → Sends (again g site k l s (l.shards s) o)

@@ -63,10 +63,10 @@ module _ (g : Setting) (site : ℕ) (k : ServerKept) (l : ServerLive) where
 module _ (core : ServerCore) (g : Setting) (k : ServerKept) (l : ServerLive) (h : Stands core g k l) where
   -- the setting is the core's
   pub setting_is : g ≡ setting core.station g
-  setting_is = λ i. record g { horizon = h.numbers.horizon i; joiners = h.numbers.joiners i; table = h.numbers.table i; batch = h.numbers.batch i; replicas = h.numbers.replicas i }
+  setting_is = λ i. record g { config = h.config i }
 
   pub table_shards : shard_count core.station.config.table ≡ shards g
-  table_shards = ap shard_count (sym h.numbers.table)
+  table_shards = ap (λ c. shard_count c.table) (sym h.config)
 
   -- a shard of the core stands for that of its number
   pub stands_at : (n : ℕ) (item : Shard) → n < length core.shards.items → item ≡ get_or core.shards.items n item → IsShard item (l.shards n)

@@ -59,7 +59,6 @@ pub use Rattle.registry_state.specs.declared.Insert.{Insert}
 pub use Rattle.registry_state.specs.declared.Token.{Token}
 pub use Rattle.site_node.proofs.Turns.{ends_done, ends_idle, fits_of, none_of, on_err, sent_ok, turn_grown, turn_moments}
 pub use Rattle.site_node.specs.Bytes.{AreSpelled, IsInput, IsJunk, Reads, record_of}
-pub use Rattle.turn_defs.specs.Configs.{IsOf}
 pub use Rattle.site_node.specs.States.{Fits, Leads, closes, row, row_of, written}
 pub use Rattle.site_node.specs.declared.kind.NodeFault.{NodeFault}
 pub use Rattle.turn_defs.specs.declared.config.Config.{Config}

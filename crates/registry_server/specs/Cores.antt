@@ -3,7 +3,6 @@ use Rattle.std.specs.Prelude.{◌≡◌, ℕ, ◌<◌, ◌+◌, List, length, ge
 use Rattle.ballot_core.specs.declared.TheConstants.{LAST_EPOCH}
 use Rattle.list_words.specs.Lists.{set_at}
 use Rattle.turn_defs.specs.Setting.{Setting}
-use Rattle.turn_defs.specs.Configs.{IsOf}
 use Rattle.turn_defs.specs.Turns.{Out, Note, Epoch}
 use Rattle.turn_defs.specs.Nodes.{Addressed}
 use Rattle.turn_defs.specs.declared.packet.Packet.{Packet as Message}
@@ -26,7 +25,7 @@ use Rattle.registry_server.specs.declared.server_core.ServerCore.{ServerCore}
 
 -- The core stands for a server of the setting, which has this epoch on its disk and knows this.
 pub record Stands (core : ServerCore) (g : Setting) (k : ServerKept) (l : ServerLive) : Type 0 where
-  pub numbers : IsOf core.station.config g
+  pub config : g.config ≡ core.station.config
   pub epoch : core.epoch ≡ k.epoch
   pub round : core.round ≡ l.round
   pub each : EachStands core.shards.items l.shards
@@ -65,7 +64,7 @@ changed g site (change.One s round step) l = record { round = round; shards = se
 -- The core is a server of the setting, whatever it knows. A start needs no more: after a stop the disk may have an epoch that the
 -- core never kept.
 abbrev pub Serves : ServerCore → Setting → Type 0
-Serves core g = IsOf core.station.config g
+Serves core g = g.config ≡ core.station.config
 
 abbrev pub IsStart : Change → Type 0
 IsStart (change.Start shards) = ⊤

@@ -93,7 +93,7 @@ FitsStep Hold h = ⊤
 abbrev pub passes : Setting → Test → ShardState → Bool
 passes g MayPropose st = may_propose g st
 passes g IsUnfinished st = shard_unfinished g st
-passes g IsBelowHorizon st = nat_lt (bound_of st.learned) g.horizon
+passes g IsBelowHorizon st = nat_lt (bound_of st.learned) g.config.horizon
 
 -- the same by what it asks: whether there is no proposal, the shard is held back, nothing waits, the bound is below the
 -- horizon, and the slot below the limit

@@ -30,8 +30,8 @@ pub record IsSpelledShard (st : ShardState) : Type 0 where
 -- the numbers of the server and of its setting are in their ranges
 pub record IsSpelledPlan (g : Setting) (n : ℕ) : Type 0 where
   pub site : n < 2
-  pub horizon : g.horizon < 2 ^ 64
-  pub batch : g.batch ≤ MOST_INSERTS
+  pub horizon : g.config.horizon < 2 ^ 64
+  pub batch : g.config.batch ≤ MOST_INSERTS
   pub shards : shards g ≤ MAX_SHARDS
 
 -- so is all that it keeps and knows

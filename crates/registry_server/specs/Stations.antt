@@ -12,9 +12,9 @@ use Rattle.turn_defs.specs.declared.node.To.TheVariants.{Only}
 use Rattle.turn_defs.specs.Setting.{Setting}
 use Rattle.registry_server.specs.declared.station.Station.{Station}
 
--- the setting with the server's numbers
+-- the setting with the server's config
 abbrev pub setting : Station → Setting → Setting
-setting t g = record g { horizon = t.config.horizon; joiners = t.config.joiners; table = t.config.table; batch = t.config.batch; replicas = t.config.replicas }
+setting t g = record g { config = t.config }
 
 -- the packets as a row gives them, each to one node
 abbrev pub sent : List (Node × Packet) → List (To × Packet)

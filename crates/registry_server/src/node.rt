@@ -17,7 +17,6 @@ ghost use Rattle.turn_defs.specs.Setting.{Setting};
 ghost use Rattle.turn_defs.specs.Turns.{land};
 ghost use Rattle.turn_defs.specs.declared.node.Input.TheVariants as given;
 ghost use Rattle.site_node.specs.Bytes.{IsInput};
-ghost use Rattle.turn_defs.specs.Configs.{IsOf};
 ghost use Rattle.site_node.specs.States.{Fits, row_of, Leads, state_phase, Says};
 ghost use Rattle.site_node.specs.Faults.{was_shut_out, HasFailed, IsOfRestart, IsWhole, of_two};
 ghost use Rattle.turn_defs.specs.Server.{ServerKept, ServerLive, land_server, server_at_rest, server_unfinished, server_wants};
@@ -78,7 +77,7 @@ impl<D: Disk> ServerNode<D> {
         ensures site { IfOk result (λ n. n.site ≡ site) }
         ensures journal { IfOk result (λ n. n.journal ≡ journal) }
         ensures up { IfOk result (λ n. n.in_doubt ≡ None) }
-        ensures stands { IsTrue D.tells → (g : Setting) → IsOf config g
+        ensures stands { IsTrue D.tells → (g : Setting) → g.config ≡ config
             → IfOk result (λ n. StandsAt n.site n.in_doubt n.journal.value.epoch (D.image n.journal.journal.disk) n.journal.journal.state n.registrar (down_over g site journal.value.epoch)) }
         ensures refused { IfErr result (λ j. j ≡ journal) }
     {

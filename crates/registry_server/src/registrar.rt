@@ -11,7 +11,6 @@ ghost use Rattle.turn_defs.specs.declared.node.Node.{Node};
 ghost use Rattle.site_node.specs.Bytes.{IsInput};
 ghost use Rattle.site_node.specs.States.{Fits, row_of};
 ghost use Rattle.turn_defs.specs.Setting.{Setting};
-ghost use Rattle.turn_defs.specs.Configs.{IsOf};
 
 use crate::ServerCore;
 use crate::station::Station;
@@ -45,7 +44,7 @@ impl Registrar {
     // A server of a site that is down. One allocation, for the table's shards.
     pub(crate) fn new(station: Station) -> Result<Registrar, AllocError>
         requires { station.site < 2 }
-        ensures serves { IfOk result (λ r. (g : Setting) → IsOf station.config g → Serves r.core g) }
+        ensures serves { IfOk result (λ r. (g : Setting) → g.config ≡ station.config → Serves r.core g) }
         ensures site { IfOk result (λ r. site_of r.core ≡ station.site) }
         ensures down { IfOk result (λ r. r.up ≡ false) }
     {

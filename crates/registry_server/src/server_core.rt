@@ -29,7 +29,6 @@ impl ServerCore {
     ghost use Rattle.turn_defs.specs.declared.node.Input.{Input};
     ghost use Rattle.registry_state.specs.declared.Insert.{Insert as Claim};
     ghost use Rattle.turn_defs.specs.Setting.{Setting, shards};
-    ghost use Rattle.turn_defs.specs.Configs.{IsOf};
     ghost use Rattle.turn_defs.specs.Turns.{land};
     ghost use Rattle.turn_defs.specs.Server.{ServerKept, ServerLive, empty_shard, first_shard, land_server, server_own, server_tick, server_gets, server_turn, server_start, server_wants, server_unfinished, server_at_rest};
     ghost use Rattle.registry_server.specs.Stations.{setting, sent};
@@ -39,7 +38,7 @@ impl ServerCore {
 
     // A server before its first start. One allocation, for the table's shards.
     pub(crate) fn new(station: Station) -> Result<ServerCore, AllocError>
-        ensures stands { IfOk result (λ core. (g : Setting) → IsOf station.config g → Stands core g (record { epoch = 0 }) (record { round = 0; shards = λ s. empty_shard })) }
+        ensures stands { IfOk result (λ core. (g : Setting) → g.config ≡ station.config → Stands core g (record { epoch = 0 }) (record { round = 0; shards = λ s. empty_shard })) }
         ensures site { IfOk result (λ core. site_of core ≡ station.site) }
     {
         let shards = empty_shards(station.alloc, station.config.table.shards())?;

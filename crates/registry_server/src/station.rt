@@ -3,7 +3,6 @@ ghost use Rattle.std.specs.Prelude.{◌≡◌, ◌≤◌};
 ghost use Rattle.registry_state.specs.declared.TheConstants.{MOST_INSERTS};
 ghost use Rattle.paxos_defs.specs.declared.TheConstants.{MOST_REPLICAS};
 ghost use Rattle.turn_defs.specs.Setting.{Setting};
-ghost use Rattle.turn_defs.specs.Configs.{IsOf};
 ghost use Rattle.turn_defs.specs.Server.{is_own_joiner};
 
 use std::alloc::Global;
@@ -21,7 +20,7 @@ pub(crate) struct Station {
 
 // Whether this is the number of a joiner of the site.
 pub(crate) fn is_joiner_of(config: Config, site: u8, number: u16) -> bool
-    ensures { (g : Setting) → IsOf config g → result ≡ is_own_joiner g site number }
+    ensures { (g : Setting) → g.config ≡ config → result ≡ is_own_joiner g site number }
 {
     let first = 4 + u16::from(config.replicas);
     let joiners = u16::from(config.joiners);

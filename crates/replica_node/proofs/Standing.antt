@@ -1,7 +1,7 @@
 -- What a replica over its disk stands for.
 use Rattle.std.proofs.Common.{◌≡◌, ◌⊎◌, inl, inr, ⊎_elim, ℕ, ◌+◌, ◌-◌, ◌^◌, ◌≤◌, min, Bool, true, false, List, [], ◌∷◌, ◌++◌, length, Option, Some, None, refl, sym, ap, ◌∙◌, subst, arith, length-append}
 use Rattle.std.specs.Prelude.{All, map, option_map, Result}
-use Rattle.replica_node.proofs.Words.{length-map, each_push, result_unwrap_or, map-append, All-head, All-tail, All-nil, All-cons, Each, Only, ReplicaNote, note_view, note, IsNote, records, StandsFor, IsOldOrNew, IsOpened, JournalState, Ready, Bytes, Setting, BallotNote, Note, Voted, land, record_of, Config, IsOf, ReplicaKept, land_replica, noted, kept_of, VoterView, KnowsAs, counted, Holds, OnDiskOr, IsRecord, StandsAt, ReplicaState, IsVoted, vote_record, records_of, IsOfNotes, IsRowNote, views_ok}
+use Rattle.replica_node.proofs.Words.{length-map, each_push, result_unwrap_or, map-append, All-head, All-tail, All-nil, All-cons, Each, Only, ReplicaNote, note_view, note, IsNote, records, StandsFor, IsOldOrNew, IsOpened, JournalState, Ready, Bytes, Setting, BallotNote, Note, Voted, land, record_of, Config, ReplicaKept, land_replica, noted, kept_of, VoterView, KnowsAs, counted, Holds, OnDiskOr, IsRecord, StandsAt, ReplicaState, IsVoted, vote_record, records_of, IsOfNotes, IsRowNote, views_ok}
 use Rattle.paxos_defs.specs.Notes.Note.{Promised, Accepted}
 use Rattle.paxos_acceptor.specs.declared.notes.ReplicaNote.TheVariants as replica
 use Rattle.replica_node.specs.Node.{Knows}
@@ -40,7 +40,7 @@ knows_by : (u : Bool) (v : VoterView) (k : ReplicaKept) → u ≡ false → kept
 knows_by true v k e is = absurd (cc e)
 knows_by false v k e is = is
 
-pub down_stands : (config : Config) (count : ℕ) (seen : List ℕ) (image : List ℕ → Type 0) (state : JournalState) (voter : VoterView) (notes : List ReplicaNote) (k : ReplicaKept) (g : Setting) → IsOf config g → All IsNote notes → kept_of notes ≡ k → state ≡ Ready
+pub down_stands : (config : Config) (count : ℕ) (seen : List ℕ) (image : List ℕ → Type 0) (state : JournalState) (voter : VoterView) (notes : List ReplicaNote) (k : ReplicaKept) (g : Setting) → g.config ≡ config → All IsNote notes → kept_of notes ≡ k → state ≡ Ready
     → StandsFor (map note notes) seen → Only seen image → count ≡ length notes → count ≤ 2 ^ 64 - 1 → voter.up ≡ false → voter.notes ≡ notes → StandsAt config None count seen image state voter (record { setting = g; kept = k; live = None; opened = None })
 down_stands config count seen image state voter notes k g of_g all is ready reads only counts fits down has =
     subst (λ (x : ReplicaKept). StandsAt config None count seen image state voter (record { setting = g; kept = x; live = None; opened = None })) is

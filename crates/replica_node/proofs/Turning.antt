@@ -1,7 +1,7 @@
 -- A turn of a replica over its disk, and its restart, as the states' entries.
 use Rattle.std.proofs.Common.{◌≡◌, ◌==◌, cond, not, inl, inr, ⊎_elim, ℕ, ◌-◌, ◌^◌, ◌≤◌, true, false, List, [], length, Option, Some, None, refl, sym, ap, ◌∙◌, subst, arith}
 use Rattle.std.specs.Prelude.{Bool, All, map, is_some, option_map}
-use Rattle.replica_node.proofs.Words.{ends_done, ends_idle, eq-eqb, ne_eqb, Each, Only, ReplicaNote, note, IsNote, StandsFor, IsOldOrNew, IsOpened, JournalState, Ready, Bytes, Begin, End, Stop, Input, land, AreSpelled, Reads, IsJunk, Leads, row, written, closes, Config, IsOf, ReplicaKept, land_replica, noted, IsRow, kept_of, Turn, VoterView, Holds, HoldsOr, StandsAt, ReplicaState, IsVoted, records_of, replica_rows, KeptOn, IsOfNotes, row_landed_ok, input_ok, row_ok}
+use Rattle.replica_node.proofs.Words.{ends_done, ends_idle, eq-eqb, ne_eqb, Each, Only, ReplicaNote, note, IsNote, StandsFor, IsOldOrNew, IsOpened, JournalState, Ready, Bytes, Begin, End, Stop, Input, land, AreSpelled, Reads, IsJunk, Leads, row, written, closes, Config, ReplicaKept, land_replica, noted, IsRow, kept_of, Turn, VoterView, Holds, HoldsOr, StandsAt, ReplicaState, IsVoted, records_of, replica_rows, KeptOn, IsOfNotes, row_landed_ok, input_ok, row_ok}
 use Rattle.replica_node.specs.Node.{Knows}
 use Rattle.replica_node.proofs.Standing.{of_notes, Apart, down_stands, same_kept, landed_kept, left_of, old_count, new_count, noted_bytes, open_bytes, landed_records, moved}
 
@@ -23,7 +23,7 @@ ends config config' doubt doubt' kept kept' seen seen' image image' state state'
       ends_done replica_rows s t n b ps sent led le i said turn.packets.items reads (said_is ∙ noted_bytes turn.note ∙ ap (option_map _) is.note) (subst (AreSpelled turn.packets.items) (sym ps_is) spelled) is.packets,
       subst (λ (d : Option (List ℕ)). StandsAt config' d kept' seen' image' state' voter' u) (sym none)
           (record {
-            setting = subst (λ (r : Config). IsOf r s.setting) (sym same) at.setting;
+            setting = at.setting ∙ sym same;
             spelled = row_landed_ok s.kept out.note at.spelled (row_ok s.setting s.kept s.live i at.spelled (input_ok s.setting b i reads)).note;
             by = (
               subst (λ (x : ReplicaKept). Holds kept' seen' image' state' x) (ap (λ o. land land_replica o s.kept) is.note) holds,
@@ -34,15 +34,15 @@ ends config config' doubt doubt' kept kept' seen seen' image image' state state'
 
 -- a turn that isn't done is open still
 pub stays_open : (config config' : Config) (doubt' : Option (List ℕ)) (kept' : ℕ) (seen' : List ℕ) (image' : List ℕ → Type 0) (state' : JournalState) (voter' : VoterView) (s t : ReplicaState) (n : ℕ) (b : Bytes) (i : Input) (turn : Turn)
-    → IsOf config s.setting → Each IsVoted s.kept.notes → Leads replica_rows s (Begin n b) t → config' ≡ config → Reads s.setting b i → IsRow s.setting (row replica_rows s i) turn → Knows voter' s.kept s.live → HoldsOr doubt' turn.note kept' seen' image' state' s.kept
+    → s.setting.config ≡ config → Each IsVoted s.kept.notes → Leads replica_rows s (Begin n b) t → config' ≡ config → Reads s.setting b i → IsRow s.setting (row replica_rows s i) turn → Knows voter' s.kept s.live → HoldsOr doubt' turn.note kept' seen' image' state' s.kept
     → StandsAt config' doubt' kept' seen' image' state' voter' t
 stays_open config config' None kept' seen' image' state' voter' s t n b i turn of_s spelled led same reads is knows holds =
     subst (λ (x : ReplicaState). StandsAt config' None kept' seen' image' state' voter' x) (sym led.2)
-    (record { setting = subst (λ (r : Config). IsOf r s.setting) (sym same) of_s; spelled = spelled; by = (holds, knows) })
+    (record { setting = of_s ∙ sym same; spelled = spelled; by = (holds, knows) })
 stays_open config config' (Some r) kept' seen' image' state' voter' s t n b i turn of_s spelled led same reads is knows holds =
     subst (λ (x : ReplicaState). StandsAt config' (Some r) kept' seen' image' state' voter' x) (sym led.2)
     (record {
-      setting = subst (λ (x : Config). IsOf x s.setting) (sym same) of_s;
+      setting = of_s ∙ sym same;
       spelled = spelled;
       by = (holds.0, record { begun = b; opened = refl; input = i; reads = reads; noted = open_bytes turn.note r holds.1 ∙ ap (option_map _) is.note; landed = ap (λ o. records_of (land land_replica o s.kept)) (sym is.note) ∙ landed_records s.kept turn.note r holds.1 });
     })
@@ -63,7 +63,7 @@ still_down config config' None doubt' kept kept' seen seen' image image' state s
 still_down config config' (Some r) doubt' kept kept' seen seen' image image' state state' voter voter' s same some counts opened waits at =
     subst (λ (o : Option (List ℕ)). StandsAt config' o kept' seen' image' state' voter' s) (sym some)
     (record {
-      setting = subst (λ (x : Config). IsOf x s.setting) (sym same) at.setting;
+      setting = at.setting ∙ sym same;
       spelled = at.spelled;
       by = (record { images = λ c here. opened_either (records_of s.kept) r c image at.by.0.images (opened c here); count = counts ∙ at.by.0.count }, at.by.1);
     })
@@ -80,8 +80,8 @@ kept_notes s c each held = of_notes held.0 c
 -- a restart that finds these notes
 module _ (config config' : Config) (kept count : ℕ) (seen seen' : List ℕ) (image image' : List ℕ → Type 0) (state state' : JournalState) (voter voter' : VoterView) (notes : List ReplicaNote) (s : ReplicaState) (same : config' ≡ config) (apart : Apart) (all : All IsNote notes) (reads : StandsFor (map note notes) seen')
     (opened : IsOpened image seen') (ready : state' ≡ Ready) (only : Only seen' image') (down : voter'.up ≡ false) (has : voter'.notes ≡ notes) (counts : count ≡ length notes) (fits : count ≤ 2 ^ 64 - 1) where
-  downs : (k : ReplicaKept) → IsOf config s.setting → kept_of notes ≡ k → StandsAt config' None count seen' image' state' voter' (closes s k None)
-  downs k of_s is = down_stands config' count seen' image' state' voter' notes k s.setting (subst (λ (r : Config). IsOf r s.setting) (sym same) of_s) all is ready reads only counts fits down has
+  downs : (k : ReplicaKept) → s.setting.config ≡ config → kept_of notes ≡ k → StandsAt config' None count seen' image' state' voter' (closes s k None)
+  downs k of_s is = down_stands config' count seen' image' state' voter' notes k s.setting (of_s ∙ sym same) all is ready reads only counts fits down has
 
   -- the entry tells the note where one more note was found
   pub restarts : (doubt : Option (List ℕ)) (n : ℕ) (landed : Bool) → is_some doubt ≡ true → StandsAt config doubt kept seen image state voter s → landed ≡ not (count == kept)

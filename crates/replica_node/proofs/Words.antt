@@ -31,7 +31,6 @@ pub use Rattle.site_node.proofs.Replicas.{IsRowNote, each_push, gets_ok, input_o
 pub use Rattle.site_node.proofs.Turns.{ends_done, ends_idle, fits_of, none_of, on_err, sent_ok, turn_grown, turn_moments}
 pub use Rattle.site_node.specs.Bytes.{AreSpelled, IsInput, IsJunk, Reads, record_of}
 pub use Rattle.site_node.specs.Replicas.{IsVoted, KeptOn, OnDisk, ReplicaState, kept_of, records_of, replica_rows, vote_record}
-pub use Rattle.turn_defs.specs.Configs.{IsOf}
 pub use Rattle.site_node.specs.States.{Fits, Leads, closes, row, written}
 pub use Rattle.turn_defs.specs.declared.config.Config.{Config}
 pub use Rattle.std.proofs.lemmas.Bool.{eq-eqb, ne_eqb}

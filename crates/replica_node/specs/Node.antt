@@ -13,7 +13,6 @@ use Rattle.turn_defs.specs.Turns.{land}
 use Rattle.site_node.specs.Bytes.{IsNoted, AreSpelled, Reads}
 use Rattle.site_node.specs.States.{row, written}
 use Rattle.turn_defs.specs.declared.config.Config.{Config}
-use Rattle.turn_defs.specs.Configs.{IsOf}
 use Rattle.site_node.specs.Replicas.{ReplicaState, IsVoted, records_of, OnDisk, kept_of, replica_rows}
 use Rattle.turn_defs.specs.Replica.{ReplicaKept, land_replica}
 use Rattle.replica_node.specs.Core.{Stands, GoesOn, HasRoomIn, noted}
@@ -99,7 +98,7 @@ StandsBy (Some r) kept seen image state voter s = Doubts kept image r s.kept × 
 
 -- the node, of these parts, stands at the state
 pub record StandsAt (config : Config) (open_record : Option (List ℕ)) (kept : ℕ) (seen : List ℕ) (image : List ℕ → Type 0) (state : JournalState) (voter : VoterView) (s : ReplicaState) : Type 0 where
-  pub setting : IsOf config s.setting
+  pub setting : s.setting.config ≡ config
   pub spelled : Each IsVoted s.kept.notes
   pub by : StandsBy open_record kept seen image state voter s
 

@@ -13,7 +13,6 @@ ghost use Rattle.packet_codec.specs.Notes.{note as note_spelled};
 ghost use Rattle.turn_defs.specs.Setting.{Setting};
 ghost use Rattle.turn_defs.specs.Turns.{land};
 ghost use Rattle.site_node.specs.Bytes.{IsInput};
-ghost use Rattle.turn_defs.specs.Configs.{IsOf};
 ghost use Rattle.site_node.specs.States.{row_of, Fits, Leads, state_phase, Says};
 ghost use Rattle.site_node.specs.Faults.{was_shut_out, HasFailed, IsOfRestart, IsWhole, of_two};
 ghost use Rattle.turn_defs.specs.Replica.{ReplicaKept, land_replica, replica_at_rest, replica_unfinished, replica_wants};
@@ -70,7 +69,7 @@ impl<D: Disk> ReplicaNode<D> {
         ensures number { result.replica ≡ replica }
         ensures disk { result.journal.disk ≡ votes.journal.disk }
         ensures up { result.in_doubt ≡ None }
-        ensures stands { IsTrue D.tells → (g : Setting) → IsOf config g → StandsAt result.config result.in_doubt result.kept (D.seen result.journal.disk) (D.image result.journal.disk) result.journal.state result.voter (down_over g votes.value.notes.items) }
+        ensures stands { IsTrue D.tells → (g : Setting) → g.config ≡ config → StandsAt result.config result.in_doubt result.kept (D.seen result.journal.disk) (D.image result.journal.disk) result.journal.state result.voter (down_over g votes.value.notes.items) }
     {
         let (journal, votes) = votes.into_parts();
         let kept = votes.notes().len() as u64;

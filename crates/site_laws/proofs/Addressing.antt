@@ -31,11 +31,11 @@ module _ (g : Setting) where
   joiner_right n k l = each_packet g n k l GoesRight (λ p o. only (Dispatcher (site_of_joiner g n)) (packet.Joined p o) site_below) (λ x. only (Server (site_of_joiner g n)) (packet.Insert x) site_below)
     where
       site_below : site_of_joiner g n < 2
-      site_below = cond_both (nat_lt n (first_joiner g + g.joiners)) 0 1 (λ s. s < 2) (λ _. omega arith) (λ _. omega arith)
+      site_below = cond_both (nat_lt n (first_joiner g + g.config.joiners)) 0 1 (λ s. s < 2) (λ _. omega arith) (λ _. omega arith)
 
   -- ---- servers: to joiners that there are, to all replicas, and to the other server
 
-  replicas_right : (site : ℕ) (p : Packet) → Each GoesRight (to_replicas g.replicas p)
+  replicas_right : (site : ℕ) (p : Packet) → Each GoesRight (to_replicas g.config.replicas p)
   replicas_right site p = replicas_each g site GoesRight p (λ r lt. only (Replica r) p lt)
 
   module _ (site : ℕ) (k : ServerKept) (l : ServerLive) where

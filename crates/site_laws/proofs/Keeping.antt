@@ -126,7 +126,7 @@ pub record Apart : Type 0 where
   pub pairs : PairsApart
 
 module _ (apart : Apart) (g : Setting) (b : Bytes) (d e : Disks) (h : HoldsRecords g b d) (k : HoldsRecords g b e) where
-  one_joiner : (s j : ℕ) → s < 2 → j < g.joiners → d.joiners (joiner_of g s j) ≡ e.joiners (joiner_of g s j)
+  one_joiner : (s j : ℕ) → s < 2 → j < g.config.joiners → d.joiners (joiner_of g s j) ≡ e.joiners (joiner_of g s j)
   one_joiner s j s_below j_below =
       let n = joiner_of g s j in
       let epoch : (d.joiners n).epoch ≡ (e.joiners n).epoch = one_value (epochs.epoch_of (b (name.Epoch s j))) _ _ (h (name.Epoch s j) (s_below, j_below)) (k (name.Epoch s j) (s_below, j_below)) in

@@ -17,9 +17,9 @@ is_disk_or g name.Topology = inl tt
 is_disk_or g (name.Offset s) = below_or s 2
 is_disk_or g (name.Retry s) = below_or s 2
 is_disk_or g (name.Server s) = below_or s 2
-is_disk_or g (name.Replica r) = below_or r g.replicas
-is_disk_or g (name.Epoch s j) = both_or (below_or s 2) (below_or j g.joiners)
-is_disk_or g (name.Output s j) = both_or (below_or s 2) (below_or j g.joiners)
+is_disk_or g (name.Replica r) = below_or r g.config.replicas
+is_disk_or g (name.Epoch s j) = both_or (below_or s 2) (below_or j g.config.joiners)
+is_disk_or g (name.Output s j) = both_or (below_or s 2) (below_or j g.config.joiners)
 
 -- where there are such bytes for each disk of the setting, one function has them all
 module _ (g : Setting) (P : DiskName → List ℕ → Type 0) (each : (disk : DiskName) → IsDisk g disk → (c : List ℕ) × P disk c) where
@@ -39,22 +39,22 @@ pub record SeatOf (g : Setting) (n : ℕ) : Type 0 where
   pub site : ℕ
   pub joiner : ℕ
   pub site_below : site < 2
-  pub joiner_below : joiner < g.joiners
+  pub joiner_below : joiner < g.config.joiners
   pub number : joiner_of g site joiner ≡ n
 
 pub seat_of : (g : Setting) (n : ℕ) → IsJoiner g n → SeatOf g n
 seat_of g n is =
     ⊎_elim
     (λ l. record { site = 0; joiner = n - first_joiner g; site_below = lit< tt; joiner_below = omega (arith, is.0, l); number = omega (arith, is.0, l) })
-    (λ l. record { site = 1; joiner = n - (first_joiner g + g.joiners); site_below = lit< tt; joiner_below = omega (arith, is.1, l); number = omega (arith, l) })
-    (cases_lt n (first_joiner g + g.joiners))
+    (λ l. record { site = 1; joiner = n - (first_joiner g + g.config.joiners); site_below = lit< tt; joiner_below = omega (arith, is.1, l); number = omega (arith, l) })
+    (cases_lt n (first_joiner g + g.config.joiners))
 
-pub is_joiner : (g : Setting) (s j : ℕ) → s < 2 → j < g.joiners → IsJoiner g (joiner_of g s j)
+pub is_joiner : (g : Setting) (s j : ℕ) → s < 2 → j < g.config.joiners → IsJoiner g (joiner_of g s j)
 is_joiner g zero j s_below j_below = (omega arith, omega (arith, j_below))
 is_joiner g (suc zero) j s_below j_below = (omega arith, omega (arith, j_below))
 is_joiner g (suc (suc s)) j s_below j_below = absurd (omega (arith, s_below))
 
-pub one_seat : (g : Setting) (s j t i : ℕ) → s < 2 → j < g.joiners → t < 2 → i < g.joiners → joiner_of g s j ≡ joiner_of g t i → (s ≡ t) × (j ≡ i)
+pub one_seat : (g : Setting) (s j t i : ℕ) → s < 2 → j < g.config.joiners → t < 2 → i < g.config.joiners → joiner_of g s j ≡ joiner_of g t i → (s ≡ t) × (j ≡ i)
 one_seat g zero j zero i a b c d e = (refl, omega (arith, e))
 one_seat g zero j (suc zero) i a b c d e = absurd (omega (arith, b, e))
 one_seat g (suc zero) j zero i a b c d e = absurd (omega (arith, d, e))

@@ -11,8 +11,8 @@ values_same f h from zero same = refl
 values_same f h from (suc n) same = grind (arith, values_same f h (suc from) n)
 
 module _ (g : Setting) (d e : Disks) (same : SameRecords g d e) where
-  journals_same : journals g.replicas d.replicas ≡ journals g.replicas e.replicas
-  journals_same = values_same (λ k. (d.replicas k).notes) (λ k. (e.replicas k).notes) 0 g.replicas (λ k l. ap (λ (x : ReplicaKept). x.notes) (same (Replica k) (omega (arith, l))))
+  journals_same : journals g.config.replicas d.replicas ≡ journals g.config.replicas e.replicas
+  journals_same = values_same (λ k. (d.replicas k).notes) (λ k. (e.replicas k).notes) 0 g.config.replicas (λ k l. ap (λ (x : ReplicaKept). x.notes) (same (Replica k) (omega (arith, l))))
 
   module _ (drawn : List Insert) where
     abbrev before : Known
@@ -62,7 +62,7 @@ module _ (g : Setting) (d e : Disks) (same : SameRecords g d e) where
     note_same : (n : BallotNote) → InsertsOf g before n → InsertsOf g after n
     note_same n x = grind arith
 
-    owned_same : AreOwned (journals g.replicas d.replicas) (λ s. (d.servers s).epoch) → AreOwned (journals g.replicas e.replicas) (λ s. (e.servers s).epoch)
+    owned_same : AreOwned (journals g.config.replicas d.replicas) (λ s. (d.servers s).epoch) → AreOwned (journals g.config.replicas e.replicas) (λ s. (e.servers s).epoch)
     owned_same x at r v h =
         let old = subst (λ (js : List (List BallotNote)). AreOwned js (λ s. (d.servers s).epoch)) journals_same x at r v h in
         (old.0, subst (λ (k : ServerKept). v.ballot.epoch ≤ k.epoch) (same (Server v.ballot.site) old.0) old.1)

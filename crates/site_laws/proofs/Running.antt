@@ -21,7 +21,7 @@ abbrev KeepsBy : Setting → Bytes → (n : Node) → KeptOf n → Type 0
 KeepsBy g b (Dispatcher s) k = KeepsOffset k.offset (b (name.Offset s)) × KeepsPending k.pending (b (name.Retry s))
 KeepsBy g b (Server s) k = KeepsEpoch k.epoch (b (name.Server s))
 KeepsBy g b (Replica r) k = KeepsVotes k (b (name.Replica r))
-KeepsBy g b (Joiner n) k = (s j : ℕ) → s < 2 → j < g.joiners → joiner_of g s j ≡ n → KeepsEpoch k.epoch (b (name.Epoch s j)) × KeepsPairs k.pairs (b (name.Output s j))
+KeepsBy g b (Joiner n) k = (s j : ℕ) → s < 2 → j < g.config.joiners → joiner_of g s j ≡ n → KeepsEpoch k.epoch (b (name.Epoch s j)) × KeepsPairs k.pairs (b (name.Output s j))
 
 module _ (g : Setting) (at : (n : Node) → StateOf n) (image : Images) (b : Bytes) (kept : AreKept g at image) (choice : IsChoice g image b) where
   abbrev KeptAt : Node → Type 0
@@ -30,7 +30,7 @@ module _ (g : Setting) (at : (n : Node) → StateOf n) (image : Images) (b : Byt
   abbrev JoinerKeeps : JoinerKept → ℕ → ℕ → Type 0
   JoinerKeeps k s j = KeepsEpoch k.epoch (b (name.Epoch s j)) × KeepsPairs k.pairs (b (name.Output s j))
 
-  joiner_kept : (s j : ℕ) → s < 2 → j < g.joiners → KeptAt (Joiner (joiner_of g s j))
+  joiner_kept : (s j : ℕ) → s < 2 → j < g.config.joiners → KeptAt (Joiner (joiner_of g s j))
   joiner_kept s j s_below j_below =
       let x = kept.joiners s j s_below j_below (b (name.Epoch s j)) (b (name.Output s j)) (choice (name.Epoch s j) (s_below, j_below)) (choice (name.Output s j) (s_below, j_below)) in (
         x.0,

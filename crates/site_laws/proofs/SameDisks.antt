@@ -8,7 +8,7 @@ use Rattle.turn_defs.specs.Setting.{Setting, first_joiner}
 use Rattle.photon_model.specs.Runs.{Disks}
 use Rattle.site_laws.specs.Stores.{IsDisk, joiner_of, KeepsOf}
 
-module _ (g h : Setting) (joiners : g.joiners ≡ h.joiners) (replicas : g.replicas ≡ h.replicas) where
+module _ (g h : Setting) (joiners : g.config.joiners ≡ h.config.joiners) (replicas : g.config.replicas ≡ h.config.replicas) where
   pub disk_onward : (disk : DiskName) → IsDisk g disk → IsDisk h disk
   disk_onward name.Topology is = tt
   disk_onward (name.Replica r) is = subst (λ n. r < n) replicas is
@@ -24,7 +24,7 @@ module _ (g h : Setting) (joiners : g.joiners ≡ h.joiners) (replicas : g.repli
   disk_back _ is = is
 
   number_same : (s j : ℕ) → joiner_of g s j ≡ joiner_of h s j
-  number_same s j = ap (λ n. 4 + n + s * g.joiners + j) replicas ∙ ap (λ n. first_joiner h + s * n + j) joiners
+  number_same s j = ap (λ n. 4 + n + s * g.config.joiners + j) replicas ∙ ap (λ n. first_joiner h + s * n + j) joiners
 
   pub keeps_onward : (d : Disks) (disk : DiskName) (c : List ℕ) → KeepsOf g d disk c → KeepsOf h d disk c
   keeps_onward d name.Topology c k = tt

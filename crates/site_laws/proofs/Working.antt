@@ -24,12 +24,12 @@ use Rattle.site_laws.proofs.Opening.{empty_sound, written_sound}
 abbrev just : Bytes → Images
 just b disk c = c ≡ b disk
 
-is_table : IsTable worked.table
+is_table : IsTable worked.config.table
 is_table = grind arith
 
-keeps_topology : (joiners : ℕ) → journal.HasJoiners (journal.topology_of joiners worked.table) → StandsFor (journal.topology_record (journal.topology_of joiners worked.table) ∷ []) (topology_alone joiners name.Topology)
-    → KeepsTopology (Some (record { joiners = joiners; table = worked.table })) (topology_alone joiners name.Topology)
-keeps_topology joiners few stands = ap (read_as journal.topologies) stands ∙ comes_next None (journal.topology_of joiners worked.table) [] (tt, record { joiners = few; table = is_table }) refl
+keeps_topology : (joiners : ℕ) → journal.HasJoiners (journal.topology_of joiners worked.config.table) → StandsFor (journal.topology_record (journal.topology_of joiners worked.config.table) ∷ []) (topology_alone joiners name.Topology)
+    → KeepsTopology (Some (record { joiners = joiners; table = worked.config.table })) (topology_alone joiners name.Topology)
+keeps_topology joiners few stands = ap (read_as journal.topologies) stands ∙ comes_next None (journal.topology_of joiners worked.config.table) [] (tt, record { joiners = few; table = is_table }) refl
 
 not_kept : (t : KeptTopology) → ◌≡◌ {A = Result (Option KeptTopology) ℕ} (Ok None) (Ok (Some t)) → ⊥
 not_kept t e = (cc)
@@ -78,7 +78,7 @@ module _ (whole : (g : Setting) → WholeSound g empty_store) (first : TopologyC
   pair_first : KeepSound worked pair_alone → ⊥
   pair_first x =
       let keeps = comes worked pair_alone (name.Output 0 0) x (lit< tt, lit< tt) (λ e. cc) (λ none. absurd (cc (sym has_pair ∙ none))) in
-      absurd (not_kept (journal.topology_of 1 worked.table) keeps)
+      absurd (not_kept (journal.topology_of 1 worked.config.table) keeps)
 
   pub worked_bytes : SoundBytes
   worked_bytes = record { topology = topology_sound; no_other_topology = other_topology; no_record_before = pair_first; row_added = row_sound; row_missing = no_row; row_not_asked = another_row }

@@ -13,10 +13,10 @@ use Rattle.site_laws.specs.Laws.{MayLeave}
 pub is_node_or : (g : Setting) (n : Node) → IsNode g n ⊎ (IsNode g n → ⊥)
 is_node_or g (Dispatcher s) = ⊎_elim (λ l. inl l) (λ l. inr (λ k. absurd (omega (arith, k, l)))) (cases_lt s 2)
 is_node_or g (Server s) = ⊎_elim (λ l. inl l) (λ l. inr (λ k. absurd (omega (arith, k, l)))) (cases_lt s 2)
-is_node_or g (Replica r) = ⊎_elim (λ l. inl l) (λ l. inr (λ k. absurd (omega (arith, k, l)))) (cases_lt r g.replicas)
+is_node_or g (Replica r) = ⊎_elim (λ l. inl l) (λ l. inr (λ k. absurd (omega (arith, k, l)))) (cases_lt r g.config.replicas)
 is_node_or g (Joiner j) =
     ⊎_elim (λ l. inr (λ k. absurd (omega (arith, k.0, l))))
-    (λ l. ⊎_elim (λ m. inl (l, m)) (λ m. inr (λ k. absurd (omega (arith, k.1, m)))) (cases_lt j (first_joiner g + 2 * g.joiners)))
+    (λ l. ⊎_elim (λ m. inl (l, m)) (λ m. inr (λ k. absurd (omega (arith, k.1, m)))) (cases_lt j (first_joiner g + 2 * g.config.joiners)))
     (cases_lt j (first_joiner g))
 
 module _ (g : Setting) (A : Node → Type 0) (P : (n : Node) → A n → Type 0) (other : (n : Node) → A n) where

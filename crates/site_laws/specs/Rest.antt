@@ -37,5 +37,5 @@ StatesRest =
 abbrev pub StatesAreQuiet : Type 0
 StatesAreQuiet =
     (g : Setting) (d : Disks) (h : List BusEntry) (at : (n : Node) → StateOf n) (es : List Entry) (dead : ℕ → Bool) →
-    IsRunOf g d h at es → ((n : Node) → IsNode g n → is_out dead n ≡ false → QuietAt g n (at n)) → ((r : ℕ) → r < g.replicas → dead r ≡ true → (at (Replica r)).opened ≡ None) →
+    IsRunOf g d h at es → ((n : Node) → IsNode g n → is_out dead n ≡ false → QuietAt g n (at n)) → ((r : ℕ) → r < g.config.replicas → dead r ≡ true → (at (Replica r)).opened ≡ None) →
     IsQuiet g dead (world_after g (opening d) es)

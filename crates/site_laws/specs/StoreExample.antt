@@ -18,7 +18,7 @@ one_record payload = 165 ∷ framed payload
 
 -- the topology of so many joiners, and no other record
 abbrev pub topology_alone : ℕ → Bytes
-topology_alone joiners name.Topology = one_record (topology_record (topology_of joiners worked.table))
+topology_alone joiners name.Topology = one_record (topology_record (topology_of joiners worked.config.table))
 topology_alone joiners _ = []
 
 -- a pair in the output log of a joiner, and no other record
@@ -31,7 +31,7 @@ abbrev pub a_row : ShardRow
 a_row = record { start = 2001; count = 8 }
 
 abbrev pub row_behind : Bytes
-row_behind name.Topology = 165 ∷ to_be_bytes w32 13 ++ topology_in 1 (topology_of 1 worked.table) ++ one_record (topology_record (topology_of 1 (worked.table ++ a_row ∷ [])))
+row_behind name.Topology = 165 ∷ to_be_bytes w32 13 ++ topology_in 1 (topology_of 1 worked.config.table) ++ one_record (topology_record (topology_of 1 (worked.config.table ++ a_row ∷ [])))
 row_behind _ = []
 
 pub record SoundBytes : Type 0 where

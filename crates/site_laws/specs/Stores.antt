@@ -40,13 +40,13 @@ IsDisk g name.Topology = ⊤
 IsDisk g (name.Offset s) = s < 2
 IsDisk g (name.Retry s) = s < 2
 IsDisk g (name.Server s) = s < 2
-IsDisk g (name.Replica r) = r < g.replicas
-IsDisk g (name.Epoch s j) = (s < 2) × (j < g.joiners)
-IsDisk g (name.Output s j) = (s < 2) × (j < g.joiners)
+IsDisk g (name.Replica r) = r < g.config.replicas
+IsDisk g (name.Epoch s j) = (s < 2) × (j < g.config.joiners)
+IsDisk g (name.Output s j) = (s < 2) × (j < g.config.joiners)
 
 -- the node number of a site's joiner
 abbrev pub joiner_of : Setting → ℕ → ℕ → ℕ
-joiner_of g s j = first_joiner g + s * g.joiners + j
+joiner_of g s j = first_joiner g + s * g.config.joiners + j
 
 -- one image of each disk of the setting
 abbrev pub IsChoice : Setting → Images → Bytes → Type 0
@@ -120,6 +120,6 @@ pub record AreKept (g : Setting) (at : (n : Node) → StateOf n) (image : Images
   pub dispatchers : (s : ℕ) → s < 2 → (o r : List ℕ) → image (name.Offset s) o → image (name.Retry s) r
       → (k : DispatcherKept) × MayHold (rows_of (Dispatcher s)) (at (Dispatcher s)) k × KeepsOffset k.offset o × KeepsPending k.pending r
   pub servers : (s : ℕ) → s < 2 → (c : List ℕ) → image (name.Server s) c → (k : ServerKept) × MayHold (rows_of (Server s)) (at (Server s)) k × KeepsEpoch k.epoch c
-  pub replicas : (r : ℕ) → r < g.replicas → (c : List ℕ) → image (name.Replica r) c → (k : ReplicaKept) × MayHold (rows_of (Replica r)) (at (Replica r)) k × KeepsVotes k c
-  pub joiners : (s j : ℕ) → s < 2 → j < g.joiners → (e o : List ℕ) → image (name.Epoch s j) e → image (name.Output s j) o
+  pub replicas : (r : ℕ) → r < g.config.replicas → (c : List ℕ) → image (name.Replica r) c → (k : ReplicaKept) × MayHold (rows_of (Replica r)) (at (Replica r)) k × KeepsVotes k c
+  pub joiners : (s j : ℕ) → s < 2 → j < g.config.joiners → (e o : List ℕ) → image (name.Epoch s j) e → image (name.Output s j) o
       → (k : JoinerKept) × MayHold (rows_of (Joiner (joiner_of g s j))) (at (Joiner (joiner_of g s j))) k × KeepsEpoch k.epoch e × KeepsPairs k.pairs o

@@ -21,6 +21,12 @@ was_shut_out (Ok x) = false
 was_shut_out (Err (Disk disk)) = true
 was_shut_out (Err _) = false
 
+-- the log couldn't be read
+abbrev pub is_read_fault : {T : Type 0} → Result T NodeFault → Bool
+is_read_fault (Ok x) = false
+is_read_fault (Err Read) = true
+is_read_fault (Err _) = false
+
 -- A call where at most so many of the calls to come are planned to fail, by old before it and by new after it: where it met
 -- such a stop there is one less to come, and else there was no fault.
 abbrev pub MeetsStops : (met : Bool) → (old new : ℕ → Type 0) → (before after : ℕ) → Type 0

@@ -1,6 +1,6 @@
 // A kind of node.
 ghost use Rattle.std.specs.Prelude.{IsTrue, ◌≡◌, ◌≢◌, ◌≤◌, length, if◌then◌else◌, IsErrOf, ℕ, Bool, true, false, Option, Some, None, IfOk, IfErr, OnOk, OnErr};
-ghost use Rattle.outside.specs.Faults.{Rose};
+ghost use Rattle.outside.specs.Faults.{Rose, tallied};
 ghost use Rattle.air_bus.specs.declared.entry.Entry.{Entry};
 ghost use Rattle.air_bus.specs.declared.entry.Entry.TheVariants.{Begin, End, Stop};
 ghost use Rattle.air_bus.specs.declared.entry.Phase.{Phase};
@@ -11,7 +11,7 @@ ghost use Rattle.air_bus.specs.History.{next_input, phase_after};
 ghost use Rattle.gate_journal.specs.Fault.{is_of_disk};
 ghost use Rattle.gate_journal.specs.declared.reading.JournalFault.TheVariants as journal;
 ghost use Rattle.site_node.specs.declared.kind.NodeDisk.{NodeDisk as Which};
-ghost use Rattle.site_node.specs.Faults.{was_stopped, was_shut_out, fault_told, refused_as, MeetsStops, HasFailed, IsOfTurn, IsOfRestart, IsUndamaged, IsWhole};
+ghost use Rattle.site_node.specs.Faults.{was_stopped, was_shut_out, is_read_fault, fault_told, refused_as, MeetsStops, HasFailed, IsOfTurn, IsOfRestart, IsUndamaged, IsWhole};
 
 use air_bus::{Input, Packets, Payload};
 use gate_journal::JournalFault;
@@ -189,11 +189,10 @@ pub trait SiteNode {
         ensures kind { IfErr result IsOfTurn }
         ensures fault { IsErrOf result NodeFault.Stopped → Rose (faults self.old) (faults self.new) }
         ensures plan { IsTrue planned → MeetsStops (was_stopped result) (stops_left self.old) (stops_left self.new) (faults self.old) (faults self.new) }
-        ensures read { IsErrOf result NodeFault.Read → Rose (log_faults self.old) (log_faults self.new) }
         ensures spent { (s : State) → stands self.old s → (epoch : ℕ) → IsErrOf result (NodeFault.Spent epoch) → spends s input.now ≡ Some epoch }
         ensures spends { (s : State) → stands self.old s → (epoch : ℕ) → spends s input.now ≡ Some epoch → OnOk result ⊥ }
         ensures count { faults self.old ≤ faults self.new }
-        ensures log_count { log_faults self.old ≤ log_faults self.new };
+        ensures log_tally { log_faults self.new ≡ tallied (log_faults self.old) (is_read_fault result) };
 
     /// Reopens the disks as the stop left them, and tells the open turn's note where it landed. The node is down then, and
     /// its next input is a Start. Where it is refused the node still waits.
@@ -213,5 +212,5 @@ pub trait SiteNode {
         ensures plan { IsTrue planned → MeetsStops (was_shut_out result) (stops_left self.old) (stops_left self.new) (faults self.old) (faults self.new) }
         ensures whole { IsTrue tells → (s : State) → stands self.old s → IfErr result IsWhole }
         ensures count { faults self.old ≤ faults self.new }
-        ensures log_count { log_faults self.old ≤ log_faults self.new };
+        ensures log_count { log_faults self.new ≡ log_faults self.old };
 }

@@ -1,8 +1,7 @@
 // What a turn begins with.
-ghost use Rattle.std.specs.Prelude.{IfOk, IfSome, IfNone};
+ghost use Rattle.std.specs.Prelude.{◌≡◌, IfOk, IfSome, IfNone};
 ghost use Rattle.turn_defs.specs.Setting.{Setting};
 ghost use Rattle.site_node.specs.Bytes.{Reads, IsJunk, IsInput};
-ghost use Rattle.turn_defs.specs.Configs.{IsOf};
 
 use air_bus::Input as Begun;
 use packet_codec::{DecodeFault, decode};
@@ -12,8 +11,8 @@ use turn_defs::{Config, Input};
 /// The input that the bytes spell, or None where no input is spelled so, or no node has the sender's number. Linear in
 /// the bytes.
 pub fn read_input(alloc: Global, config: Config, begun: &Begun) -> Result<Option<Input>, AllocError>
-    ensures reads { (g : Setting) → IsOf config g → IfOk result (λ read. IfSome read (Reads g begun.now)) }
-    ensures junk { (g : Setting) → IsOf config g → IfOk result (λ read. IfNone read (IsJunk g begun.now)) }
+    ensures reads { (g : Setting) → g.config ≡ config → IfOk result (λ read. IfSome read (Reads g begun.now)) }
+    ensures junk { (g : Setting) → g.config ≡ config → IfOk result (λ read. IfNone read (IsJunk g begun.now)) }
     ensures spelled { IfOk result (λ read. IfSome read IsInput) }
 {
     match begun {

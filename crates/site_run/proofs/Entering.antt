@@ -9,7 +9,7 @@ use Rattle.site_run.proofs.Outing.{stays_goes_on}
 
 module _ {D : Type 0} (disks : List (OpenView D)) (n replicas : ℕ) (named : map (λ (o : OpenView D). o.name) disks ≡ other_names n replicas) where
   -- as opening the store tells them
-  pub records_so : (g : Setting) → g.replicas ≡ replicas → g.joiners ≡ n → Each (λ (k : KeptDisk). IsOfKind k.name k.kept) (kept_all disks) → AreRecordsOf g (kept_all disks) (records_of g (kept_all disks))
+  pub records_so : (g : Setting) → g.config.replicas ≡ replicas → g.config.joiners ≡ n → Each (λ (k : KeptDisk). IsOfKind k.name k.kept) (kept_all disks) → AreRecordsOf g (kept_all disks) (records_of g (kept_all disks))
   records_so g count same kinds = grind (arith, others_are, are_records, names_kept, others_apart)
 
   there : (disk : DiskName) → Mem disk (other_names n replicas) → Mem disk (map (λ (k : KeptDisk). k.name) (kept_all disks))

@@ -27,17 +27,17 @@ module _ (laws : Laws) (g : Setting) (d : Disks) (h : List BusEntry) (after : Im
 
   -- the bounds of all accepted records
   abbrev old : List ℕ
-  old = bounds_from d.replicas 0 g.replicas
+  old = bounds_from d.replicas 0 g.config.replicas
 
   has_bounds : HasBounds g d old
-  has_bounds r at b v lt m = to_bounds d.replicas 0 g.replicas r at b v (omega arith) (omega arith) m
+  has_bounds r at b v lt m = to_bounds d.replicas 0 g.config.replicas r at b v (omega arith) (omega arith) m
 
   leaves : RestLeaves g d rested.entries old w
   leaves = laws.rest g d rested.entries old checked sound has_bounds rested.run.run rested.rest
 
-  was_accepted : (bound : ℕ) → IsBoundOk g old bound → (bound ≡ g.horizon) ⊎ IsAcceptedBound g d bound
+  was_accepted : (bound : ℕ) → IsBoundOk g old bound → (bound ≡ g.config.horizon) ⊎ IsAcceptedBound g d bound
   was_accepted bound (inl e) = inl e
-  was_accepted bound (inr m) = let x = from_bounds d.replicas 0 g.replicas bound m in let lt = x.1 in inr (x.0, x.2.0, x.2.1, x.2.2, omega arith, x.2.3, x.2.4)
+  was_accepted bound (inr m) = let x = from_bounds d.replicas 0 g.config.replicas bound m in let lt = x.1 in inr (x.0, x.2.0, x.2.1, x.2.2, omega arith, x.2.3, x.2.4)
 
   missing : (faulted → ⊥) → (i : EventId) → IsMissing g (known_of g left []) i → WasHeld g d left i
   missing calm i m = (m.0.0, m.0.1, leaves.missing (rested.stops calm) i m.0.0 m.0.1 m.1)
@@ -83,7 +83,7 @@ none_accepted from zero x m = m
 none_accepted from (suc n) x m = none_accepted (suc from) n x m
 
 pub afresh : Laws → (g : Setting) (before after : Images) (h : List BusEntry) (faulted : Type 0) (js : Journals) (lines : List ReportLine)
-    → Checked g → IsTable g.table → LeavesNothing g before → RestLeft g before after h faulted js → AreLinesBy g js lines → JoinsAfresh g faulted lines
+    → Checked g → IsTable g.config.table → LeavesNothing g before → RestLeft g before after h faulted js → AreLinesBy g js lines → JoinsAfresh g faulted lines
 afresh laws g before after h faulted js lines checked table nothing rest are = record {
   left = now;
   are = same;
@@ -112,7 +112,7 @@ afresh laws g before after h faulted js lines checked table nothing rest are = r
     none_missing : (faulted → ⊥) → (l : ClickLine) → Mem l g.clicks → kept.line_of g now l.click.id ≡ M l.click.id → ⊥
     none_missing calm l m e =
         let held = missing laws g empty_disks h after faulted js checked was rested calm l.click.id ((laws.missing g now l.click.id).0 e) in
-        none_accepted 0 g.replicas _ held.2
+        none_accepted 0 g.config.replicas _ held.2
 
 -- ---- by the run's own history
 
@@ -128,7 +128,7 @@ joins_by_stops laws none g before after h faulted js lines checked sound rest ar
     joins laws g before after h (JoinerStopped g h) js lines checked sound (by_stops g before after h faulted js none rest) are
 
 -- a run over records that are none, and the lines that were told
-module _ (laws : Laws) (g : Setting) (h : List BusEntry) (after : Images) (js : Journals) (lines : List ReportLine) (checked : Checked g) (table : IsTable g.table) (are : AreLinesBy g js lines) (rested : HasRested g empty_disks h after (JoinerStopped g h) js) where
+module _ (laws : Laws) (g : Setting) (h : List BusEntry) (after : Images) (js : Journals) (lines : List ReportLine) (checked : Checked g) (table : IsTable g.config.table) (are : AreLinesBy g js lines) (rested : HasRested g empty_disks h after (JoinerStopped g h) js) where
   was : SoundStore g empty_disks
   was = (laws.empty g).records
 
@@ -141,7 +141,7 @@ module _ (laws : Laws) (g : Setting) (h : List BusEntry) (after : Images) (js : 
   none_missing : (JoinerStopped g h → ⊥) → (l : ClickLine) → Mem l g.clicks → kept.line_of g now l.click.id ≡ M l.click.id → ⊥
   none_missing calm l m e =
       let held = missing laws g empty_disks h after (JoinerStopped g h) js checked was rested calm l.click.id ((laws.missing g now l.click.id).0 e) in
-      none_accepted 0 g.replicas _ held.2
+      none_accepted 0 g.config.replicas _ held.2
 
   ran_afresh : RanAfresh g h lines
   ran_afresh = record {
@@ -160,6 +160,6 @@ blank laws g before after h faulted js nothing rest = laws.one_records g (λ dis
     (λ disk is. empty_keeps g disk)
 
 pub ran : Laws → NoneStops → (g : Setting) (before after : Images) (h : List BusEntry) (faulted : Type 0) (js : Journals) (lines : List ReportLine)
-    → Checked g → IsTable g.table → LeavesNothing g before → RestLeft g before after h faulted js → AreLinesBy g js lines → RanAfresh g h lines
+    → Checked g → IsTable g.config.table → LeavesNothing g before → RestLeft g before after h faulted js → AreLinesBy g js lines → RanAfresh g h lines
 ran laws none g before after h faulted js lines checked table nothing rest are =
     ran_afresh laws g h after js lines checked table are (stopped g empty_disks h after faulted js none (rest.ran empty_disks (blank laws g before after h faulted js nothing rest)))

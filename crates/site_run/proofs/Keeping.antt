@@ -1,7 +1,7 @@
 -- What is left of the disks of all nodes keeps what their states say.
 use Rattle.std.proofs.Common.{◌≡◌, ◌≢◌, ⊎_elim, inl, inr, ℕ, ◌+◌, ◌-◌, ◌<◌, List, [], ◌∷◌, length, refl, sym, ap, ◌∙◌, subst, arith}
 use Rattle.std.specs.Prelude.{slice_index_or}
-use Rattle.site_run.proofs.Words.{Mem, each_at, DiskName, Node, Dispatcher, Server, Replica, Joiner, Setting, IsNode, NumbersAreNodes, node_number, Lent, Lacks, IsOfOne, StateOf, all_from, numbers_of, site_of, place_at, Images, IsDisk, AreKept, joiner_of, is_joiner, AllHold, IsLeftBy, KeepsItsRecord}
+use Rattle.site_run.proofs.Words.{Mem, each_at, DiskName, Node, Dispatcher, Server, Replica, Joiner, Setting, IsNode, NumbersAreNodes, node_number, Lent, Lacks, IsOfOne, StateOf, all_from, site_of, place_at, Images, IsDisk, AreKept, joiner_of, is_joiner, AllHold, IsLeftBy, KeepsItsRecord}
 use Rattle.outside.specs.declared.store.DiskName.TheVariants as name
 use Rattle.site_laws.proofs.Naming.{one_seat}
 use Rattle.site_run.proofs.Naming.{seat_of}
@@ -62,7 +62,7 @@ module _ {N D : Type 0} (image : D → List ℕ → Type 0) (disks_of : ℕ → 
       ⊎_elim (λ e. absurd (other (sym x.named ∙ ap (λ (l : Lent D). l.name) (sym e) ∙ named)))
       (λ m.
       let has = node_of_disk x.one m in
-      let same = owner g has.node disk has.is (subst (λ d. IsDiskOf (numbers_of g) has.node d) x.named (names_of image (numbers_of g) has.node (at has.node) (disks_at has.node a_node) (all.each has.node has.is a_node) x.one has.among)) in
+      let same = owner g has.node disk has.is (subst (λ d. IsDiskOf g.config has.node d) x.named (names_of image g.config has.node (at has.node) (disks_at has.node a_node) (all.each has.node has.is a_node) x.one has.among)) in
       record { one = x.one; among = subst (λ n. Mem x.one (disks_at n a_node)) (sym same) has.among; named = x.named; may = x.may })
       x.among
 
@@ -73,7 +73,7 @@ module _ {N D : Type 0} (image : D → List ℕ → Type 0) (disks_of : ℕ → 
       (λ e. absurd (other (sym is ∙ ap (λ (l : Lent D). l.name) (sym e) ∙ named)))
       (λ m.
       let has = node_of_disk l m in
-      of_setting g has.node disk has.is (subst (λ d. IsDiskOf (numbers_of g) has.node d) is (names_of image (numbers_of g) has.node (at has.node) (disks_at has.node a_node) (all.each has.node has.is a_node) l has.among)))
+      of_setting g has.node disk has.is (subst (λ d. IsDiskOf g.config has.node d) is (names_of image g.config has.node (at has.node) (disks_at has.node a_node) (all.each has.node has.is a_node) l has.among)))
       among
 
   pub topology_image : (c : List ℕ) → IsOfOne image every_disk name.Topology c → image topology.disk c
@@ -81,7 +81,7 @@ module _ {N D : Type 0} (image : D → List ℕ → Type 0) (disks_of : ℕ → 
       ⊎_elim (λ e. subst (λ (l : Lent D). image l.disk c) (sym e) x.may)
       (λ m.
       let has = node_of_disk x.one m in
-      absurd (no_node (numbers_of g) has.node (subst (λ d. IsDiskOf (numbers_of g) has.node d) x.named (names_of image (numbers_of g) has.node (at has.node) (disks_at has.node a_node) (all.each has.node has.is a_node) x.one has.among))))
+      absurd (no_node g.config has.node (subst (λ d. IsDiskOf g.config has.node d) x.named (names_of image g.config has.node (at has.node) (disks_at has.node a_node) (all.each has.node has.is a_node) x.one has.among))))
       x.among
 
   -- ---- there is a disk of each name
@@ -109,32 +109,32 @@ module _ {N D : Type 0} (image : D → List ℕ → Type 0) (disks_of : ℕ → 
       let l : Lent D = record { name = name.Server (2 + s - 2); disk = h.disk } in
       has_disk (Server s) l is (subst (Mem l) (sym h.named) (inl refl)) (name.Server s) (ap (λ n. name.Server n) number)
 
-  has_replica : (r : ℕ) → r < g.replicas → Lacks every_disk (name.Replica r) → ⊥
+  has_replica : (r : ℕ) → r < g.config.replicas → Lacks every_disk (name.Replica r) → ⊥
   has_replica r is =
       let h = all.each (Replica r) is a_node in
       let number : 4 + r - 4 ≡ r = omega arith in
       let l : Lent D = record { name = name.Replica (4 + r - 4); disk = h.disk } in
       has_disk (Replica r) l is (subst (Mem l) (sym h.named) (inl refl)) (name.Replica r) (ap (λ n. name.Replica n) number)
 
-  has_epochs : (s j : ℕ) → s < 2 → j < g.joiners → Lacks every_disk (name.Epoch s j) → ⊥
+  has_epochs : (s j : ℕ) → s < 2 → j < g.config.joiners → Lacks every_disk (name.Epoch s j) → ⊥
   has_epochs s j s_below j_below =
       let n = joiner_of g s j in
       let is = is_joiner g s j s_below j_below in
       let h = all.each (Joiner n) is a_node in
-      let seat = seat_of (numbers_of g) n is.0 is.1 in
-      let so = one_seat g (site_of (numbers_of g) n) (place_at (numbers_of g) n) s j seat.site_below seat.place_below s_below j_below seat.number in
-      let l : Lent D = record { name = name.Epoch (site_of (numbers_of g) n) (place_at (numbers_of g) n); disk = h.epochs } in
-      has_disk (Joiner n) l is (subst (Mem l) (sym h.named) (inl refl)) (name.Epoch s j) (ap (λ i. name.Epoch i (place_at (numbers_of g) n)) so.0 ∙ ap (λ i. name.Epoch s i) so.1)
+      let seat = seat_of g.config n is.0 is.1 in
+      let so = one_seat g (site_of g.config n) (place_at g.config n) s j seat.site_below seat.place_below s_below j_below seat.number in
+      let l : Lent D = record { name = name.Epoch (site_of g.config n) (place_at g.config n); disk = h.epochs } in
+      has_disk (Joiner n) l is (subst (Mem l) (sym h.named) (inl refl)) (name.Epoch s j) (ap (λ i. name.Epoch i (place_at g.config n)) so.0 ∙ ap (λ i. name.Epoch s i) so.1)
 
-  has_outputs : (s j : ℕ) → s < 2 → j < g.joiners → Lacks every_disk (name.Output s j) → ⊥
+  has_outputs : (s j : ℕ) → s < 2 → j < g.config.joiners → Lacks every_disk (name.Output s j) → ⊥
   has_outputs s j s_below j_below =
       let n = joiner_of g s j in
       let is = is_joiner g s j s_below j_below in
       let h = all.each (Joiner n) is a_node in
-      let seat = seat_of (numbers_of g) n is.0 is.1 in
-      let so = one_seat g (site_of (numbers_of g) n) (place_at (numbers_of g) n) s j seat.site_below seat.place_below s_below j_below seat.number in
-      let l : Lent D = record { name = name.Output (site_of (numbers_of g) n) (place_at (numbers_of g) n); disk = h.outputs } in
-      has_disk (Joiner n) l is (subst (Mem l) (sym h.named) (inr (inl refl))) (name.Output s j) (ap (λ i. name.Output i (place_at (numbers_of g) n)) so.0 ∙ ap (λ i. name.Output s i) so.1)
+      let seat = seat_of g.config n is.0 is.1 in
+      let so = one_seat g (site_of g.config n) (place_at g.config n) s j seat.site_below seat.place_below s_below j_below seat.number in
+      let l : Lent D = record { name = name.Output (site_of g.config n) (place_at g.config n); disk = h.outputs } in
+      has_disk (Joiner n) l is (subst (Mem l) (sym h.named) (inr (inl refl))) (name.Output s j) (ap (λ i. name.Output i (place_at g.config n)) so.0 ∙ ap (λ i. name.Output s i) so.1)
 
   lacks_none : (disk : DiskName) → IsDisk g disk → Lacks every_disk disk → ⊥
   lacks_none name.Topology is lacks = absurd (lacks.0 named)

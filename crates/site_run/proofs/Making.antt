@@ -2,7 +2,7 @@
 use Rattle.std.proofs.Common.{◌≡◌, ◌≢◌, ◌⊎◌, inl, inr, ℕ, suc, ◌+◌, ◌*◌, ◌<◌, ◌≤◌, Bool, IsTrue, List, [], ◌∷◌, ◌++◌, length, map, Some, None, refl, sym, ap, ◌∙◌, subst, append_assoc, length-append, arith}
 use Rattle.std.specs.Prelude.{Option}
 use Rattle.std.proofs.lemmas.List.{map-append}
-use Rattle.site_run.proofs.Words.{Config, append-nil, length-map, IsPermutation, IsPermutation-map, IsPermutation-trans, IsPermutation-append_comm, IsPermutation-append_left, IsPermutation-append_right, IsPermutation-cons, IsPermutation-sym, IsPermutation-to_front, length_permutation, Each, each_more, Mem, other_names, Setting, IsOf, AreKeptPlaces, IsLogOf, IsQueryLog, Disks, Lent, OpenView, Says, each_map, each_unmap, kept_by, lent_all, LentDisk, as_lent, all_from, AnyState, AllAt, IsUpAt, IsDownAt, AreFrom, IsStart, IsRunnable, IsTakenFrom, Makes, StockView, lent_by, cases_lt, clicks_from, count_of, disks_from, disks_in, logs_in, number_of, queries_from}
+use Rattle.site_run.proofs.Words.{Config, append-nil, length-map, IsPermutation, IsPermutation-map, IsPermutation-trans, IsPermutation-append_comm, IsPermutation-append_left, IsPermutation-append_right, IsPermutation-cons, IsPermutation-sym, IsPermutation-to_front, length_permutation, Each, each_more, Mem, other_names, Setting, AreKeptPlaces, IsLogOf, IsQueryLog, Disks, Lent, OpenView, Says, each_map, each_unmap, kept_by, lent_all, LentDisk, as_lent, all_from, AnyState, AllAt, IsUpAt, IsDownAt, AreFrom, IsStart, IsRunnable, IsTakenFrom, Makes, StockView, lent_by, cases_lt, clicks_from, count_of, disks_from, disks_in, logs_in, number_of, queries_from}
 use Rattle.site_run.proofs.Lists.{all_at_more, all_last, no_items}
 use Rattle.site_run.proofs.Taken.{Took, each_took, fewer_took, last_is, moved_took, opened_count, still_all}
 
@@ -118,7 +118,7 @@ module _ {D L : Type 0} (bytes : L → List ℕ) (i : ℕ) (old new : StockView 
 
     module _ {N : Type 0} (number : N → ℕ) (waits : N → Bool) (places : N → AnyState → Type 0) (disks_of : Config → ℕ → N → List (Lent D)) (logs_of : N → List L) (tells : Bool) (left : AreFrom i old) where
       pub made : (n : N) → new.disks ≡ old.disks → new.logs ≡ old.logs → IsUpAt number waits i n → disks_of old.config i n ≡ lent_all us → logs_of n ≡ cs ++ qs
-          → (IsTrue tells → (g : Setting) (d : Disks) → IsOf old.config g → ((s : ℕ) → s < 2 → AreKeptPlaces g (d.dispatchers s)) → own_start g d → IsDownAt places g d i n)
+          → (IsTrue tells → (g : Setting) (d : Disks) → g.config ≡ old.config → ((s : ℕ) → s < 2 → AreKeptPlaces g (d.dispatchers s)) → own_start g d → IsDownAt places g d i n)
           → Makes number waits places disks_of logs_of tells bytes i old (Some n) new
       made n disks_same logs_same up disks_are logs_are down =
           let none : (new.disks ≡ []) × (new.logs ≡ []) = (disks_same ∙ left.none.0, logs_same ∙ left.none.1) in

@@ -1,7 +1,7 @@
 -- Lists that are put together place by place, and whose disk a name is.
 use Rattle.std.proofs.Common.{◌≡◌, ⊎_elim, ℕ, zero, suc, ◌+◌, ◌*◌, ◌<◌, ◌≤◌, List, [], ◌∷◌, length, refl, sym, ap, ◌∙◌, subst, arith}
 use Rattle.std.specs.Prelude.{slice_index_or}
-use Rattle.site_run.proofs.Words.{Mem, Each, mem_left, mem_right, mem_split, each_at, DiskName, Node, Dispatcher, Server, Replica, Joiner, Setting, IsNode, Lent, StateOf, Config, count_of, numbers_of, site_of, all_from, HoldsAs}
+use Rattle.site_run.proofs.Words.{Mem, Each, mem_left, mem_right, mem_split, each_at, DiskName, Node, Dispatcher, Server, Replica, Joiner, Setting, IsNode, Lent, StateOf, Config, count_of, site_of, all_from, HoldsAs}
 use Rattle.outside.specs.declared.store.DiskName.TheVariants as name
 use Rattle.site_run.specs.Naming.{joiner_of}
 use Rattle.site_run.proofs.Naming.{seat_of}
@@ -58,7 +58,7 @@ number_back c n s j low high site joiner =
     ap (λ x. 4 + c.replicas + x * c.joiners + j) site ∙ ap (λ y. 4 + c.replicas + site_of c n * c.joiners + y) joiner ∙ (seat_of c n low high).number
 
 -- a node whose disk has this name is that one
-pub owner : (g : Setting) (n : Node) (disk : DiskName) → IsNode g n → IsDiskOf (numbers_of g) n disk → node_with g disk ≡ n
+pub owner : (g : Setting) (n : Node) (disk : DiskName) → IsNode g n → IsDiskOf g.config n disk → node_with g disk ≡ n
 owner g (Dispatcher s) (name.Offset t) is has = ap (λ x. Dispatcher x) has
 owner g (Dispatcher s) (name.Retry t) is has = ap (λ x. Dispatcher x) has
 owner g (Dispatcher s) _ is has = absurd has
@@ -66,21 +66,21 @@ owner g (Server s) (name.Server t) is has = ap (λ x. Server x) has
 owner g (Server s) _ is has = absurd has
 owner g (Replica r) (name.Replica t) is has = ap (λ x. Replica x) has
 owner g (Replica r) _ is has = absurd has
-owner g (Joiner n) (name.Epoch s j) is has = ap (λ x. Joiner x) (number_back (numbers_of g) n s j is.0 is.1 has.0 has.1)
-owner g (Joiner n) (name.Output s j) is has = ap (λ x. Joiner x) (number_back (numbers_of g) n s j is.0 is.1 has.0 has.1)
+owner g (Joiner n) (name.Epoch s j) is has = ap (λ x. Joiner x) (number_back g.config n s j is.0 is.1 has.0 has.1)
+owner g (Joiner n) (name.Output s j) is has = ap (λ x. Joiner x) (number_back g.config n s j is.0 is.1 has.0 has.1)
 owner g (Joiner n) _ is has = absurd has
 
 -- and that name is one of the setting's
-pub of_setting : (g : Setting) (n : Node) (disk : DiskName) → IsNode g n → IsDiskOf (numbers_of g) n disk → stores.IsDisk g disk
+pub of_setting : (g : Setting) (n : Node) (disk : DiskName) → IsNode g n → IsDiskOf g.config n disk → stores.IsDisk g disk
 of_setting g (Dispatcher s) (name.Offset t) is has = subst (λ k. k < 2) (sym has) is
 of_setting g (Dispatcher s) (name.Retry t) is has = subst (λ k. k < 2) (sym has) is
 of_setting g (Dispatcher s) _ is has = absurd has
 of_setting g (Server s) (name.Server t) is has = subst (λ k. k < 2) (sym has) is
 of_setting g (Server s) _ is has = absurd has
-of_setting g (Replica r) (name.Replica t) is has = subst (λ k. k < g.replicas) (sym has) is
+of_setting g (Replica r) (name.Replica t) is has = subst (λ k. k < g.config.replicas) (sym has) is
 of_setting g (Replica r) _ is has = absurd has
-of_setting g (Joiner n) (name.Epoch s j) is has = let seat = seat_of (numbers_of g) n is.0 is.1 in (subst (λ k. k < 2) (sym has.0) seat.site_below, subst (λ k. k < g.joiners) (sym has.1) seat.place_below)
-of_setting g (Joiner n) (name.Output s j) is has = let seat = seat_of (numbers_of g) n is.0 is.1 in (subst (λ k. k < 2) (sym has.0) seat.site_below, subst (λ k. k < g.joiners) (sym has.1) seat.place_below)
+of_setting g (Joiner n) (name.Epoch s j) is has = let seat = seat_of g.config n is.0 is.1 in (subst (λ k. k < 2) (sym has.0) seat.site_below, subst (λ k. k < g.config.joiners) (sym has.1) seat.place_below)
+of_setting g (Joiner n) (name.Output s j) is has = let seat = seat_of g.config n is.0 is.1 in (subst (λ k. k < 2) (sym has.0) seat.site_below, subst (λ k. k < g.config.joiners) (sym has.1) seat.place_below)
 of_setting g (Joiner n) _ is has = absurd has
 
 -- no node has the topology's

@@ -17,7 +17,7 @@ use Rattle.site_workers.specs.FourKinds as one
 use Rattle.site_workers.specs.declared.one_of.OneOf.TheVariants as node
 use Rattle.site_run.specs.Naming.{names_of, joiner_of}
 use Rattle.site_run.specs.Stops.{AllInAll, ArePlanned, AreSpared, RunsAsPlanned, StopsAsPlanned}
-use Rattle.site_run.proofs.Words.{list_any, Each, Mem, each_at, each_from, AreUp, HasMet, RunFault, first_fault, of_node, Lent, OneOf, BusEntry, Begin, End, Stop, NodeFault, Setting, Disks, Node, Dispatcher, Server, Replica, Joiner, IsNode, NumbersAreNodes, StateOf, AnyState, node_number, node_count, down_over, made_by, all_from, site_of, is_stop, stop_count, HoldsAs, AreHeld, AreDownOver, NoJoinerStopped, RunLog, Config, numbers_of}
+use Rattle.site_run.proofs.Words.{list_any, Each, Mem, each_at, each_from, AreUp, HasMet, RunFault, first_fault, of_node, Lent, OneOf, BusEntry, Begin, End, Stop, NodeFault, Setting, Disks, Node, Dispatcher, Server, Replica, Joiner, IsNode, NumbersAreNodes, StateOf, AnyState, node_number, node_count, down_over, made_by, all_from, site_of, is_stop, stop_count, HoldsAs, AreHeld, AreDownOver, NoJoinerStopped, RunLog, Config}
 use Rattle.site_run.proofs.Going.{disks_by}
 use Rattle.site_run.proofs.Places.{at_place, from_place}
 use Rattle.site_run.proofs.Running.{some_of, told_of_node}
@@ -34,7 +34,7 @@ none_counted (Stop node landed ∷ es) few = absurd (omega (arith, few))
 pub none_of_joiners : (left : DiskName → ℕ → Type 0) (g : Setting) (h : List BusEntry) → ((site joiner : ℕ) → left (name.Epoch site joiner) 0 × left (name.Output site joiner) 0)
     → StopsAsPlanned left g h → NoJoinerStopped g h
 none_of_joiners left g h none few = λ j is stopped.
-    let none_here = none (site_of (numbers_of g) j) (joiner_of (numbers_of g) j) in
+    let none_here = none (site_of g.config j) (joiner_of g.config j) in
     let never = none_counted (made_by j h) (few (Joiner j) is 0 (0, 0, none_here.0, (0, 0, none_here.1, refl, refl), refl)) in
     cc (never, stopped)
 
@@ -47,7 +47,7 @@ all_earlier old new on (x ∷ xs) k has = (has.0, has.1, on x has.0 has.2, all_e
 pub stops_earlier : (o : Option RunLog) (old new : DiskName → ℕ → Type 0) (g : Setting) → ((disk : DiskName) (k : ℕ) → old disk k → new disk k)
     → IfSome o (λ l. StopsAsPlanned new g l.air.history) → IfSome o (λ l. StopsAsPlanned old g l.air.history)
 stops_earlier None old new g on few = tt
-stops_earlier (Some l) old new g on few = λ n is k has. few n is k (all_earlier old new on (names_of (numbers_of g) n) k has)
+stops_earlier (Some l) old new g on few = λ n is k has. few n is k (all_earlier old new on (names_of g.config n) k has)
 
 -- a store with the same plan, of which as many calls were made
 pub soon_earlier : {S : Type 0} (stops : S → DiskName → ℕ → Bool) (made : S → DiskName → ℕ) (old new : S) → ((disk : DiskName) (n : ℕ) → stops new disk n ≡ stops old disk n) → ((disk : DiskName) → made new disk ≡ made old disk)
@@ -138,10 +138,10 @@ module _ {N D : Type 0} (stops : D → ℕ → Bool) (made disk_faults : D → �
             (λ i b below. let within : i < length vs = omega (arith, below, count) in let a = some_of vs (omega (arith, within)) in laws.calm config i (slice_index_or ws i b).0 (stays_calm none i a b within).0),
       )
 
-    module _ (image : D → List ℕ → Type 0) (places : N → AnyState → Type 0) (grown : N → N → Type 0) (held : AreHeld image places grown disks_of) (g : Setting) (same : numbers_of g ≡ config) (numbers : NumbersAreNodes g) (d : Disks)
+    module _ (image : D → List ℕ → Type 0) (places : N → AnyState → Type 0) (grown : N → N → Type 0) (held : AreHeld image places grown disks_of) (g : Setting) (same : g.config ≡ config) (numbers : NumbersAreNodes g) (d : Disks)
         (count : length vs ≡ node_count g) (down : AreDownOver places g d vs) where
       -- it has what was planned for its disks at most, at its end too
-      few_met : (n : Node) → IsNode g n → (b : N × Option NodeFault) (k : ℕ) → AllInAll left (names_of (numbers_of g) n) k → HasAtMost stops_left k (slice_index_or ws (node_number n) b).0 (slice_index_or ws (node_number n) b).1 (made_by (node_number n) h)
+      few_met : (n : Node) → IsNode g n → (b : N × Option NodeFault) (k : ℕ) → AllInAll left (names_of g.config n) k → HasAtMost stops_left k (slice_index_or ws (node_number n) b).0 (slice_index_or ws (node_number n) b).1 (made_by (node_number n) h)
       few_met n is b k has =
           let j = node_number n in
           let below : j < length vs = let under = numbers.below n is in omega (arith, under, count) in
@@ -158,7 +158,7 @@ module _ {N D : Type 0} (stops : D → ℕ → Bool) (made disk_faults : D → �
           omega (arith, few.2)
 
       -- of those that are spared none tells a fault of the store
-      pub none_told : length ws ≡ length vs → ((n : Node) → IsNode g n → AllInAll left (names_of (numbers_of g) n) 1)
+      pub none_told : length ws ≡ length vs → ((n : Node) → IsNode g n → AllInAll left (names_of g.config n) 1)
           → ((i : ℕ) (b : N × Option NodeFault) → i < length vs → HasMet faults waits (slice_index_or ws i b).0 (slice_index_or ws i b).1 (made_by i h))
           → (f : RunFault) → first_fault config 0 ws ≡ Some f → (at : StorePlace) → f ≢ fault.Store at
       none_told long spared met f is at of =

@@ -1,7 +1,7 @@
 -- What is read back of the disks of nodes at rest is the nodes' records.
 use Rattle.std.proofs.Common.{◌≡◌, ℕ, zero, suc, ◌+◌, ◌-◌, ◌*◌, ◌<◌, ◌≤◌, List, [], ◌∷◌, ◌++◌, length, map, slice_index_or, Bool, false, cond, IsTrue, Option, None, Some, refl, sym, ap, ◌∙◌, subst, arith, lit<, lit≤, append_assoc}
 use Rattle.std.specs.Prelude.{filter}
-use Rattle.site_run.proofs.Words.{All-nil, append-nil, filter-append, DiskName, ReplicaNote, note_view, PairRec, KeepsPairs, IsPair, Node, Dispatcher, Server, Replica, Joiner, Setting, first_joiner, IsNode, NumbersAreNodes, node_count, node_number, node_of, numbers_of, Config, BallotNote, ReplicaKept, notes_kept, journals_of, values_from, Disks, AreOf, Lent, KeepsNotes, StateOf, KeptOf, kept_of, all_from, EachWith, is_replica, is_output, each_with_append, Journals, notes_of, KeepsVotes, HoldsRecords, HoldSameRecords, ReadNotesAreKept, KeepsAs, AllKeep, lent_replicas, lent_outputs, AreKeptIn}
+use Rattle.site_run.proofs.Words.{All-nil, append-nil, filter-append, DiskName, ReplicaNote, note_view, PairRec, KeepsPairs, IsPair, Node, Dispatcher, Server, Replica, Joiner, Setting, first_joiner, IsNode, NumbersAreNodes, node_count, node_number, node_of, Config, BallotNote, ReplicaKept, notes_kept, journals_of, values_from, Disks, AreOf, Lent, KeepsNotes, StateOf, KeptOf, kept_of, all_from, EachWith, is_replica, is_output, each_with_append, Journals, notes_of, KeepsVotes, HoldsRecords, HoldSameRecords, ReadNotesAreKept, KeepsAs, AllKeep, lent_replicas, lent_outputs, AreKeptIn}
 use Rattle.outside.specs.declared.store.DiskName.TheVariants as name
 use Rattle.site_laws.specs.Stores.{Bytes}
 
@@ -22,7 +22,7 @@ two_records k ps = record {
 }
 
 abbrev small : Setting → Setting
-small g = record g { replicas = 1; joiners = 1 }
+small g = record g { config = record g.config { replicas = 1; joiners = 1 } }
 
 two_held : (g : Setting) (k : ReplicaKept) (ps : List PairRec) (votes pairs : List ℕ) → KeepsVotes k votes → KeepsPairs ps pairs → HoldsRecords g (two_disks votes pairs) (two_records k ps)
 two_held g k ps votes pairs a b name.Topology is = tt
@@ -128,7 +128,7 @@ spread_ones f v (suc n) i h one =
 
 module _ {N D V : Type 0} (image : D → List ℕ → Type 0) (disks_of : ℕ → N → List (Lent D)) (g : Setting) (numbers : NumbersAreNodes g) (at : (n : Node) → StateOf n) (d : Disks) (same : (n : Node) → IsNode g n → kept_of d n ≡ (at n).kept)
     (keeps : V → List ℕ → Type 0) (p : DiskName → Bool) (values : (n : Node) → KeptOf n → List V)
-    (of_node : (n : Node) (t : StateOf n) (lent : List (Lent D)) → KeepsAs image (numbers_of g) n t lent → KeepValues image keeps (chosen image keeps p lent) (values n t.kept)) where
+    (of_node : (n : Node) (t : StateOf n) (lent : List (Lent D)) → KeepsAs image g.config n t lent → KeepValues image keeps (chosen image keeps p lent) (values n t.kept)) where
   abbrev its_values : Node → List V
   its_values n = values n (kept_of d n)
 
@@ -152,12 +152,12 @@ module _ {N D V : Type 0} (image : D → List ℕ → Type 0) (disks_of : ℕ �
 
   -- the values of all nodes: of the sites', of the replicas, and of the joiners
   abbrev all_values : List V
-  all_values = (spread values_at 0 4 ++ spread values_at 4 g.replicas) ++ spread values_at (first_joiner g) (2 * g.joiners)
+  all_values = (spread values_at 0 4 ++ spread values_at 4 g.config.replicas) ++ spread values_at (first_joiner g) (2 * g.config.joiners)
 
   in_parts : spread values_at 0 (node_count g) ≡ all_values
   in_parts =
-      spread_split values_at (first_joiner g) (2 * g.joiners) 0 (node_count g) (first_joiner g) refl (omega arith)
-      ∙ ap (λ vs. vs ++ spread values_at (first_joiner g) (2 * g.joiners)) (spread_split values_at 4 g.replicas 0 (first_joiner g) 4 refl refl)
+      spread_split values_at (first_joiner g) (2 * g.config.joiners) 0 (node_count g) (first_joiner g) refl (omega arith)
+      ∙ ap (λ vs. vs ++ spread values_at (first_joiner g) (2 * g.config.joiners)) (spread_split values_at 4 g.config.replicas 0 (first_joiner g) 4 refl refl)
 
   of_all : (nodes : List N) → AllKeep image disks_of g at nodes → KeepValues image keeps (chosen image keeps p (all_from disks_of 0 nodes)) all_values
   of_all nodes all =
@@ -227,32 +227,32 @@ map_same (x ∷ xs) = ap (λ ys. x ∷ ys) (map_same xs)
 module _ {N D : Type 0} (image : D → List ℕ → Type 0) (disks_of : ℕ → N → List (Lent D)) (g : Setting) (numbers : NumbersAreNodes g) (at : (n : Node) → StateOf n) (nodes : List N) (topology : Lent D) (tells : Bool) (journals : Journals)
     (once : HoldSameRecords) (read : ReadNotesAreKept) (all : AllKeep image disks_of g at nodes) (named : topology.name ≡ name.Topology) (d : Disks) (same : (n : Node) → IsNode g n → kept_of d n ≡ (at n).kept) (on : IsTrue tells) where
   abbrev notes_at : ℕ → List (List BallotNote)
-  notes_at = values_at image disks_of g numbers at d same KeepsNoteList is_replica its_notes (notes_in image (numbers_of g))
+  notes_at = values_at image disks_of g numbers at d same KeepsNoteList is_replica its_notes (notes_in image g.config)
 
   notes_of_node : (n : Node) → IsNode g n → notes_at (node_number n) ≡ its_notes n (kept_of d n)
-  notes_of_node = values_of image disks_of g numbers at d same KeepsNoteList is_replica its_notes (notes_in image (numbers_of g))
+  notes_of_node = values_of image disks_of g numbers at d same KeepsNoteList is_replica its_notes (notes_in image g.config)
 
-  notes_are : AreKeptIn tells image KeepsNotes (lent_replicas (topology ∷ all_from disks_of 0 nodes)) journals.notes.items → notes_of journals ≡ journals_of g.replicas d.replicas
+  notes_are : AreKeptIn tells image KeepsNotes (lent_replicas (topology ∷ all_from disks_of 0 nodes)) journals.notes.items → notes_of journals ≡ journals_of g.config.replicas d.replicas
   notes_are kept =
-      all_read image disks_of g numbers at d same KeepsNoteList is_replica its_notes (notes_in image (numbers_of g)) tells on KeepsNotes (map note_view) (one_notes once g read) nodes topology journals.notes.items all (ap is_replica named) kept
-      ∙ ap (λ vs. vs ++ spread notes_at (first_joiner g) (2 * g.joiners))
-      (spread_ones notes_at (λ r. (d.replicas r).notes) g.replicas 4 0 (λ j r l below at_ to. ap notes_at at_ ∙ notes_of_node (Replica r) below ∙ ap (λ m. (d.replicas m).notes ∷ []) (let here : r ≡ l = omega (arith, to) in here)))
-      ∙ ap (λ vs. journals_of g.replicas d.replicas ++ vs) (spread_none notes_at (2 * g.joiners) (first_joiner g) (λ j low high. notes_of_node (Joiner j) (low, high)))
-      ∙ append-nil (journals_of g.replicas d.replicas)
+      all_read image disks_of g numbers at d same KeepsNoteList is_replica its_notes (notes_in image g.config) tells on KeepsNotes (map note_view) (one_notes once g read) nodes topology journals.notes.items all (ap is_replica named) kept
+      ∙ ap (λ vs. vs ++ spread notes_at (first_joiner g) (2 * g.config.joiners))
+      (spread_ones notes_at (λ r. (d.replicas r).notes) g.config.replicas 4 0 (λ j r l below at_ to. ap notes_at at_ ∙ notes_of_node (Replica r) below ∙ ap (λ m. (d.replicas m).notes ∷ []) (let here : r ≡ l = omega (arith, to) in here)))
+      ∙ ap (λ vs. journals_of g.config.replicas d.replicas ++ vs) (spread_none notes_at (2 * g.config.joiners) (first_joiner g) (λ j low high. notes_of_node (Joiner j) (low, high)))
+      ∙ append-nil (journals_of g.config.replicas d.replicas)
 
   abbrev pairs_at : ℕ → List (List PairRec)
-  pairs_at = values_at image disks_of g numbers at d same KeepsPairs is_output its_pairs (pairs_in image (numbers_of g))
+  pairs_at = values_at image disks_of g numbers at d same KeepsPairs is_output its_pairs (pairs_in image g.config)
 
   pairs_of_node : (n : Node) → IsNode g n → pairs_at (node_number n) ≡ its_pairs n (kept_of d n)
-  pairs_of_node = values_of image disks_of g numbers at d same KeepsPairs is_output its_pairs (pairs_in image (numbers_of g))
+  pairs_of_node = values_of image disks_of g numbers at d same KeepsPairs is_output its_pairs (pairs_in image g.config)
 
-  pairs_are : AreKeptIn tells image KeepsPairs (lent_outputs (topology ∷ all_from disks_of 0 nodes)) journals.pairs.items → journals.pairs.items ≡ values_from (λ j. (d.joiners j).pairs) (first_joiner g) (2 * g.joiners)
+  pairs_are : AreKeptIn tells image KeepsPairs (lent_outputs (topology ∷ all_from disks_of 0 nodes)) journals.pairs.items → journals.pairs.items ≡ values_from (λ j. (d.joiners j).pairs) (first_joiner g) (2 * g.config.joiners)
   pairs_are kept =
       sym (map_same journals.pairs.items)
-      ∙ all_read image disks_of g numbers at d same KeepsPairs is_output its_pairs (pairs_in image (numbers_of g)) tells on KeepsPairs (λ ps. ps) (one_pairs once g) nodes topology journals.pairs.items all (ap is_output named) kept
-      ∙ ap (λ vs. vs ++ spread pairs_at (first_joiner g) (2 * g.joiners))
-      (spread_none pairs_at g.replicas 4 (λ j low high. let at_ : j ≡ 4 + (j - 4) = omega (arith, low) in ap pairs_at at_ ∙ pairs_of_node (Replica (j - 4)) (omega (arith, low, high))))
-      ∙ spread_ones pairs_at (λ j. (d.joiners j).pairs) (2 * g.joiners) (first_joiner g) (first_joiner g)
+      ∙ all_read image disks_of g numbers at d same KeepsPairs is_output its_pairs (pairs_in image g.config) tells on KeepsPairs (λ ps. ps) (one_pairs once g) nodes topology journals.pairs.items all (ap is_output named) kept
+      ∙ ap (λ vs. vs ++ spread pairs_at (first_joiner g) (2 * g.config.joiners))
+      (spread_none pairs_at g.config.replicas 4 (λ j low high. let at_ : j ≡ 4 + (j - 4) = omega (arith, low) in ap pairs_at at_ ∙ pairs_of_node (Replica (j - 4)) (omega (arith, low, high))))
+      ∙ spread_ones pairs_at (λ j. (d.joiners j).pairs) (2 * g.config.joiners) (first_joiner g) (first_joiner g)
       (λ j k l below at_ to.
       let same : j ≡ l = at_ ∙ sym to in
       pairs_of_node (Joiner j) (omega (arith, at_), omega (arith, at_, below)) ∙ ap (λ m. (d.joiners m).pairs ∷ []) same)

@@ -1,6 +1,6 @@
 -- What nodes at rest keep, by the name of each disk, and what is read back of it.
 use Rattle.std.proofs.Common.{◌≡◌, inl, ℕ, ◌<◌, List, ◌∷◌, slice_index_or, refl, sym, subst}
-use Rattle.site_run.proofs.Words.{DiskName, Node, Dispatcher, Server, Replica, Joiner, Setting, IsNode, NumbersAreNodes, node_number, DispatcherKept, JoinerKept, ServerKept, ReplicaKept, KeepsOffset, KeepsPending, KeepsEpoch, KeepsPairs, Disks, Lent, IsOfOne, StateOf, kept_of, all_from, IsDisk, KeepsOf, KeepsVotes, joiner_of, is_joiner, HoldsAs, AllHold, KeepsAs, AllKeep, Config, numbers_of}
+use Rattle.site_run.proofs.Words.{DiskName, Node, Dispatcher, Server, Replica, Joiner, Setting, IsNode, NumbersAreNodes, node_number, DispatcherKept, JoinerKept, ServerKept, ReplicaKept, KeepsOffset, KeepsPending, KeepsEpoch, KeepsPairs, Disks, Lent, IsOfOne, StateOf, kept_of, all_from, IsDisk, KeepsOf, KeepsVotes, joiner_of, is_joiner, HoldsAs, AllHold, KeepsAs, AllKeep, Config}
 use Rattle.outside.specs.declared.store.DiskName.TheVariants as name
 use Rattle.site_run.proofs.Keeping.{found, first_image, second_image, only_image, a_node}
 
@@ -15,7 +15,7 @@ module _ {N D : Type 0} (image : D → List ℕ → Type 0) (disks_of : ℕ → 
   pub all_hold : AllKeep image disks_of g at nodes → AllHold image disks_of g at nodes
   all_hold all = record {
     count = all.count;
-    each = λ n is a. keeps_hold image (numbers_of g) n (at n) (disks_of (node_number n) (slice_index_or nodes (node_number n) a)) (all.each n is a);
+    each = λ n is a. keeps_hold image g.config n (at n) (disks_of (node_number n) (slice_index_or nodes (node_number n) a)) (all.each n is a);
   }
 
   module _ (topology : Lent D) (numbers : NumbersAreNodes g) (all : AllKeep image disks_of g at nodes) (named : topology.name ≡ name.Topology)
@@ -47,20 +47,20 @@ module _ {N D : Type 0} (image : D → List ℕ → Type 0) (disks_of : ℕ → 
         subst (λ (k : ServerKept). KeepsEpoch k.epoch c) (sym (same (Server s) is))
         (h.epochs c (only_image image (name.Server s) c _ (subst (λ lent. IsOfOne image lent (name.Server s) c) h.named (found image disks_of g at nodes topology numbers hold named (name.Server s) (λ e. absurd (cc e)) c of))))
 
-    of_replica : (r : ℕ) → r < g.replicas → (c : List ℕ) → IsOf (name.Replica r) c → KeepsVotes (d.replicas r) c
+    of_replica : (r : ℕ) → r < g.config.replicas → (c : List ℕ) → IsOf (name.Replica r) c → KeepsVotes (d.replicas r) c
     of_replica r is c of =
         let h = all.each (Replica r) is some_node in
         subst (λ (k : ReplicaKept). KeepsVotes k c) (sym (same (Replica r) is))
         (h.votes c (only_image image (name.Replica r) c _ (subst (λ lent. IsOfOne image lent (name.Replica r) c) h.named (found image disks_of g at nodes topology numbers hold named (name.Replica r) (λ e. absurd (cc e)) c of))))
 
-    of_epochs : (s j : ℕ) → s < 2 → j < g.joiners → (c : List ℕ) → IsOf (name.Epoch s j) c → KeepsEpoch (d.joiners (joiner_of g s j)).epoch c
+    of_epochs : (s j : ℕ) → s < 2 → j < g.config.joiners → (c : List ℕ) → IsOf (name.Epoch s j) c → KeepsEpoch (d.joiners (joiner_of g s j)).epoch c
     of_epochs s j sb jb c of =
         let is = is_joiner g s j sb jb in
         let h = all.each (Joiner (joiner_of g s j)) is some_node in
         subst (λ (k : JoinerKept). KeepsEpoch k.epoch c) (sym (same (Joiner (joiner_of g s j)) is))
         (h.epoch c (first_image image (name.Epoch s j) c _ _ (λ e. absurd (cc e)) (subst (λ lent. IsOfOne image lent (name.Epoch s j) c) h.named (found image disks_of g at nodes topology numbers hold named (name.Epoch s j) (λ e. absurd (cc e)) c of))))
 
-    of_outputs : (s j : ℕ) → s < 2 → j < g.joiners → (c : List ℕ) → IsOf (name.Output s j) c → KeepsPairs (d.joiners (joiner_of g s j)).pairs c
+    of_outputs : (s j : ℕ) → s < 2 → j < g.config.joiners → (c : List ℕ) → IsOf (name.Output s j) c → KeepsPairs (d.joiners (joiner_of g s j)).pairs c
     of_outputs s j sb jb c of =
         let is = is_joiner g s j sb jb in
         let h = all.each (Joiner (joiner_of g s j)) is some_node in

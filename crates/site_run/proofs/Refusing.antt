@@ -1,7 +1,7 @@
 -- Why a run over a store gives up, from what opening it tells and what a run of its nodes does.
 use Rattle.std.specs.Prelude.{IsTrue, IfSome, IsSomeAnd, Result, Ok, Err, OnOk, IfErr, ⊤}
 use Rattle.std.proofs.Common.{◌≡◌, ◌≢◌, inl, inr, ⊎_elim, ℕ, ◌==◌, if◌then◌else◌, List, [], ◌∷◌, map, Bool, true, false, Option, Some, None, refl, sym, ◌∙◌, ap, subst, arith}
-use Rattle.site_run.proofs.Words.{eq-eqb, Each, Mem, each_at, BusEntry, DiskName, StoreFault, Topology, end_from, Dispatcher, Server, Replica, Joiner, Node, IsNode, node_number, Setting, IsLogOf, Disks, RunFault, Misplaced, IsCounted, IsWelcome, of_place, limit_at, limit_in, IsKeptIn, IsJournalOf, other_names, Images, IsDisk, joiner_of, place_at, site_of, IsAsked, EpochIs, KeepsEpoch, KeptDisk, KeptEpoch, KeptValues, Says, AreRecordsOf, all_named, at_name, was_journal, AreTold, ArePassed, HasCause, HasFailed, IsCause, IsUnread, cause_more, failed_rose, passed_more, unread_rose, asked_of, HasPassed, IsCauseOf, IsLate, IsNearLast, IsOfRun, IsSpent, KeptAreJournals, NamesFailed, RunLog, TellsPlaces, disk_of, numbers_of}
+use Rattle.site_run.proofs.Words.{eq-eqb, Each, Mem, each_at, BusEntry, DiskName, StoreFault, Topology, end_from, Dispatcher, Server, Replica, Joiner, Node, IsNode, node_number, Setting, IsLogOf, Disks, RunFault, Misplaced, IsCounted, IsWelcome, of_place, limit_at, limit_in, IsKeptIn, IsJournalOf, other_names, Images, IsDisk, joiner_of, place_at, site_of, IsAsked, EpochIs, KeepsEpoch, KeptDisk, KeptEpoch, KeptValues, Says, AreRecordsOf, all_named, at_name, was_journal, AreTold, ArePassed, HasCause, HasFailed, IsCause, IsUnread, cause_more, failed_rose, passed_more, unread_rose, asked_of, HasPassed, IsCauseOf, IsLate, IsNearLast, IsOfRun, IsSpent, KeptAreJournals, NamesFailed, RunLog, TellsPlaces, disk_of}
 use Rattle.outside.specs.declared.store.DiskName.TheVariants as name
 use Rattle.outside.specs.declared.faults.StoreFault.TheVariants as store
 use Rattle.run_fault.specs.declared.fault.StorePlace.{StorePlace}
@@ -30,7 +30,7 @@ err_both A B C (Err e) a b more = more e a b
 
 -- ---- of a store that is opened
 
-module _ (g : Setting) (before : Images) (asked : Topology) (is : IsAsked asked g) (replicas : ℕ) (count : g.replicas ≡ replicas) (tells log_tells : Bool) (sure : IsTrue tells) (log_sure : IsTrue log_tells) (log : List ℕ) (end_ : ℕ) (log_is : IsLogOf log g) (end_is : end_ ≡ end_from 0 g.clicks) where
+module _ (g : Setting) (before : Images) (asked : Topology) (is : IsAsked asked g) (replicas : ℕ) (count : g.config.replicas ≡ replicas) (tells log_tells : Bool) (sure : IsTrue tells) (log_sure : IsTrue log_tells) (log : List ℕ) (end_ : ℕ) (log_is : IsLogOf log g) (end_is : end_ ≡ end_from 0 g.clicks) where
   same_asked : asked ≡ asked_of g
   same_asked i = record { joiners = sym is.joiners i; table = sym is.table i }
 
@@ -42,8 +42,8 @@ module _ (g : Setting) (before : Images) (asked : Topology) (is : IsAsked asked 
 
   pub refused_so : (rose store_rose read faulted : Type 0) → (rose → read) → (store_rose → faulted) → (f : RunFault) → IsCause tells before replicas store_rose log_tells log end_ rose (Some asked) f → IsCauseOf g before read faulted f
   refused_so rose store_rose read faulted to_read to_faulted f cause =
-      subst (λ t. HasCause t before g.replicas (Some (asked_of g)) (TellsPlaces g) (λ l. read) (λ at. faulted) (IsLate g before faulted f) ⊤ f) sure
-      (subst (λ (a : Topology). HasCause tells before g.replicas (Some a) (TellsPlaces g) (λ l. read) (λ at. faulted) (IsLate g before faulted f) ⊤ f) same_asked
+      subst (λ t. HasCause t before g.config.replicas (Some (asked_of g)) (TellsPlaces g) (λ l. read) (λ at. faulted) (IsLate g before faulted f) ⊤ f) sure
+      (subst (λ (a : Topology). HasCause tells before g.config.replicas (Some a) (TellsPlaces g) (λ l. read) (λ at. faulted) (IsLate g before faulted f) ⊤ f) same_asked
       (subst (λ n. HasCause tells before n (Some asked) (TellsPlaces g) (λ l. read) (λ at. faulted) (IsLate g before faulted f) ⊤ f) (sym count)
       (cause_more tells replicas (Some asked) before before (λ disk c now. now) (AreTold log_tells log end_) (TellsPlaces g) over_log
       (IsUnread tells before replicas (Some asked) (AreTold log_tells log end_) rose) (λ l. read) (HasFailed tells before replicas (Some asked) (AreTold log_tells log end_) store_rose) (λ at. faulted) ⊥ (IsLate g before faulted f) ⊥ ⊤
@@ -73,7 +73,7 @@ not_last : (n : DiskName) (epoch : ℕ) → limit_at n (EpochIs epoch) ≡ None 
 not_last n epoch none last = absurd (cc (sym (eq-eqb epoch 4294967294 last) ∙ (rest_none (epoch == 4294967294) (fault.Limit n 4294967294) None none).0))
 
 module _ (g : Setting) (before : Images) (disks : List KeptDisk) (limits : limit_in disks ≡ None) (kept : Each (IsKept before) disks) (d : Disks) (records : AreRecordsOf g disks d)
-    (named : map (λ (k : KeptDisk). k.name) disks ≡ other_names g.joiners g.replicas) where
+    (named : map (λ (k : KeptDisk). k.name) disks ≡ other_names g.config.joiners g.config.replicas) where
   -- a disk that kept an epoch kept none that is the last one
   abbrev KeptLess : DiskName → ℕ → Type 0
   KeptLess disk epoch = (epoch ≢ 4294967294) × IsKeptIn (before disk) (KeepsEpoch epoch)
@@ -86,13 +86,13 @@ module _ (g : Setting) (before : Images) (disks : List KeptDisk) (limits : limit
         subst (λ (m : DiskName). IsKeptIn (before m) (KeepsEpoch epoch)) o.2 (subst (λ k. IsKeptIn (before o.0.name) (KeepsAs k)) is (each_at (IsKept before) disks kept o.0 o.1)),
       )
 
-  of_node : (n : Node) (epoch : ℕ) → IsNode g n → KeptEpoch d n epoch → KeptLess (disk_of (numbers_of g) (node_number n) First) epoch
+  of_node : (n : Node) (epoch : ℕ) → IsNode g n → KeptEpoch d n epoch → KeptLess (disk_of g.config (node_number n) First) epoch
   of_node (Dispatcher s) epoch is had = absurd had
   of_node (Server s) epoch is had = subst (λ m. KeptLess m epoch) (sym (disk_is g (Server s) is First)) (of_disk (name.Server s) epoch is (λ e. cc e) (λ k says. says ∙ ap EpochIs had))
   of_node (Replica r) epoch is had = absurd had
   of_node (Joiner j) epoch is had =
-      let site = site_of (numbers_of g) j in
-      let seat = place_at (numbers_of g) j in
+      let site = site_of g.config j in
+      let seat = place_at g.config j in
       let number : joiner_of g site seat ≡ j = cc (owner g (Joiner j) (name.Epoch site seat) is (refl, refl)) in
       subst (λ m. KeptLess m epoch) (sym (disk_is g (Joiner j) is First))
       (of_disk (name.Epoch site seat) epoch (of_setting g (Joiner j) (name.Epoch site seat) is (refl, refl)) (λ e. cc e) (λ k says. says ∙ ap EpochIs (ap (λ m. (d.joiners m).epoch) number ∙ had)))
@@ -159,7 +159,7 @@ place_spared store.Memory never at is = absurd (cc is)
 
 module _ (g : Setting) (before placed : Images) (within : (disk : DiskName) (c : List ℕ) → placed disk c → before disk c) where
   pub passed_within : HasPassed g placed → HasPassed g before
-  passed_within = passed_more true g.replicas (Some (asked_of g)) placed before within (TellsPlaces g) (TellsPlaces g) (λ disks m told. told)
+  passed_within = passed_more true g.config.replicas (Some (asked_of g)) placed before within (TellsPlaces g) (TellsPlaces g) (λ disks m told. told)
 
   late_within : (faulted rose : Type 0) → (rose → faulted) → (f : RunFault) → IsLate g placed rose f → IsLate g before faulted f
   late_within faulted rose more (fault.Limit disk value) (met, (c, here, near)) = (more met, (c, within disk c here, near))

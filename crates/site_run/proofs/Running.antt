@@ -1,14 +1,14 @@
 -- From what a run leaves of each node to what it leaves of the store.
 use Rattle.std.specs.Prelude.{IsTrue, IsSome, option_map}
 use Rattle.std.proofs.Common.{◌≡◌, ◌≢◌, inl, inr, ⊎_elim, ℕ, zero, suc, ◌+◌, ◌<◌, ◌≤◌, List, [], ◌∷◌, ◌++◌, length, map, slice_index_or, Bool, true, false, Option, None, Some, refl, sym, ap, ◌∙◌, subst, arith, length-append}
-use Rattle.site_run.proofs.Words.{list_any, Mem, some_same, is_in_turn, DiskName, NamesFailed, disk_of, is_read, BusEntry, Begin, End, Stop, Bytes, Busy, Node, Dispatcher, Server, Replica, Joiner, Setting, IsNode, NumbersAreNodes, node_number, node_count, phase_by, NodeFault, World, Disks, disks, world_after, opening, NoJoinerStops, AreOf, RunFault, damaged_by, IsJournalOf, undamaged, Lent, IsOfOne, MayBeLeft, GoesOn, StateOf, kept_of, cell_of, made_by, HasMet, IsCaused, is_stop, stop_count, AreCaused, HasFault, AnyState, any_of, any_phase, IsRunFrom, HaveGrown, ComesToLast, all_from, topology_of, Images, IsDisk, AreKept, KeepsOf, KeepsTopology, Journals, Config, IsOf, votes_are_notes, IsCounted, of_node, IsOfDisks, IsOfRun, IsSpent, RunLog, numbers_of, HoldsAs, HaveGoneOn, AllHold, AreHeld, AreMet, IsLeftBy, KeepsItsRecord, NoneStops, HasRun, HasRested, AreOut, IsClosed, KeepsAs, AllKeep, KeepsPairs, KeepsNotes, HoldSameRecords, ReadNotesAreKept, told_of, or_else, first_fault, lent_replicas, lent_outputs, AreKeptIn}
+use Rattle.site_run.proofs.Words.{list_any, Mem, some_same, is_in_turn, DiskName, NamesFailed, disk_of, is_read, BusEntry, Begin, End, Stop, Bytes, Busy, Node, Dispatcher, Server, Replica, Joiner, Setting, IsNode, NumbersAreNodes, node_number, node_count, phase_by, NodeFault, World, Disks, disks, world_after, opening, NoJoinerStops, AreOf, RunFault, damaged_by, IsJournalOf, undamaged, Lent, IsOfOne, MayBeLeft, GoesOn, StateOf, kept_of, cell_of, made_by, HasMet, IsCaused, is_stop, stop_count, AreCaused, HasFault, AnyState, any_of, any_phase, IsRunFrom, HaveGrown, ComesToLast, all_from, topology_of, Images, IsDisk, AreKept, KeepsOf, KeepsTopology, Journals, Config, votes_are_notes, IsCounted, of_node, IsOfDisks, IsOfRun, IsSpent, RunLog, HoldsAs, HaveGoneOn, AllHold, AreHeld, AreMet, IsLeftBy, KeepsItsRecord, NoneStops, HasRun, HasRested, AreOut, IsClosed, KeepsAs, AllKeep, KeepsPairs, KeepsNotes, HoldSameRecords, ReadNotesAreKept, told_of, or_else, first_fault, lent_replicas, lent_outputs, AreKeptIn}
 use Rattle.outside.specs.declared.store.DiskName.TheVariants as name
 use Rattle.site_node.specs.declared.kind.NodeFault.TheVariants as node
 use Rattle.run_fault.specs.declared.fault.StorePlace.TheVariants as at
 use Rattle.topology_journal.specs.Topologies as journal
 use Rattle.photon_model.specs.Topology.{Topology}
 use Rattle.site_run.proofs.Going.{all_nodes_gone_on}
-use Rattle.site_run.proofs.Naming.{disk_among, log_is, same_numbers}
+use Rattle.site_run.proofs.Naming.{disk_among, log_is}
 use Rattle.site_node.specs.declared.kind.NodeDisk.TheVariants.{First}
 use Rattle.site_node.specs.declared.kind.SiteNode.{Ghosts}
 use Rattle.site_run.specs.Naming.{names_of}
@@ -122,7 +122,7 @@ journal_of g d (name.Output s j) other is c keeps = (_, keeps)
 -- ---- what a run leaves
 
 module _ {N D : Type 0} (image : D → List ℕ → Type 0) (places : N → AnyState → Type 0) (grown : N → N → Type 0) (disks_of : Config → ℕ → N → List (Lent D)) (laws : AreHeld image places grown disks_of)
-    (g : Setting) (config : Config) (asked : IsOf config g) (numbers : NumbersAreNodes g) (d : Disks) (h : List BusEntry) (ws : List (N × Option NodeFault)) (rest : Bool)
+    (g : Setting) (config : Config) (asked : g.config ≡ config) (numbers : NumbersAreNodes g) (d : Disks) (h : List BusEntry) (ws : List (N × Option NodeFault)) (rest : Bool)
     (left : IsRunFrom places g d h ws rest) (count : length ws ≡ node_count g) (topology : Lent D) (kept : KeepsItsRecord image g topology) (inside after : Images)
     (by : (disk : DiskName) (c : List ℕ) → after disk c → MayBeLeft image inside (topology ∷ all_from (λ i (w : N × Option NodeFault). disks_of config i w.0) 0 ws) disk c) where
   abbrev disks_at : ℕ → N × Option NodeFault → List (Lent D)
@@ -131,7 +131,7 @@ module _ {N D : Type 0} (image : D → List ℕ → Type 0) (places : N → AnyS
   hold : AllHold image disks_at g left.at ws
   hold = record {
     count = count;
-    each = λ n is a. subst (λ k. HoldsAs image k n (left.at n) (disks_at (node_number n) (slice_index_or ws (node_number n) a))) (sym (same_numbers g config asked))
+    each = λ n is a. subst (λ k. HoldsAs image k n (left.at n) (disks_at (node_number n) (slice_index_or ws (node_number n) a))) (sym asked)
         (laws.held config n (left.at n) (slice_index_or ws (node_number n) a).0 (left.stand n is a));
   }
 
@@ -153,7 +153,7 @@ module _ {N D : Type 0} (image : D → List ℕ → Type 0) (places : N → AnyS
     pub keep : AllKeep image disks_at g left.at ws
     keep = record {
       count = count;
-      each = λ n is a. subst (λ k. KeepsAs image k n (left.at n) (disks_at (node_number n) (slice_index_or ws (node_number n) a))) (sym (same_numbers g config asked))
+      each = λ n is a. subst (λ k. KeepsAs image k n (left.at n) (disks_at (node_number n) (slice_index_or ws (node_number n) a))) (sym asked)
           (laws.rested config n (left.at n) (slice_index_or ws (node_number n) a).0 (closed_of n (left.at n) (left.closed resting n is)) (left.stand n is a));
     }
 
@@ -250,7 +250,7 @@ module _ {N D : Type 0} (image : D → List ℕ → Type 0) (places : N → AnyS
           (record {
             node = n;
             is = is;
-            named = ap (λ (k : Config). disk_of k (node_number n) First) (sym (same_numbers g config asked));
+            named = ap (λ (k : Config). disk_of k (node_number n) First) (sym asked);
             came = came;
             few = (met_at n is).most;
             met = λ some. has_stopped n is (some_counted (made_by (node_number n) h) some);
@@ -265,7 +265,7 @@ module _ {N D : Type 0} (image : D → List ℕ → Type 0) (places : N → AnyS
       node_told caused n is b node.Stopped told =
           (n, is, refl, subst (λ l. stop_count (made_by (node_number n) l) ≡ 8) (sym same) ((stopped (node_number n) b (inside_all n is)).ended told))
       node_told caused n is b (node.Disk disk) told =
-          inl (n, is, subst (λ (k : Config). Mem (disk_of k (node_number n) disk) (names_of (numbers_of g) n)) (same_numbers g config asked) (disk_among g n is disk), in_turn n is b (node.Disk disk) told (λ e. cc e) (λ e. cc e))
+          inl (n, is, subst (λ (k : Config). Mem (disk_of k (node_number n) disk) (names_of g.config n)) asked (disk_among g n is disk), in_turn n is b (node.Disk disk) told (λ e. cc e) (λ e. cc e))
       node_told caused n is b (node.Damaged disk at) told = left.whole n is b disk at told
       node_told caused n is b node.Read told =
           let j = node_number n in

@@ -87,7 +87,7 @@ pub use Rattle.site_run.specs.Laws.{AllHold, AreHeld, AreMet, IsLeftBy, JoinerSt
 pub use Rattle.site_run.specs.Left.{HasRested, HasRun, RestLeft, RunLeft}
 pub use Rattle.site_run.specs.Making.{AreEnough, AreFrom, IsRoomFor, IsStart, Makes, StockView, clicks_from, disks_from, disks_in, logs_in, number_of, queries_from, view_of}
 pub use Rattle.site_run.specs.Meaning.{AreLinesBy, lines_by}
-pub use Rattle.site_run.specs.Naming.{IsTakenFrom, all_from, as_lent, count_of, joiner_of as place_at, numbers_of, of_dispatcher, of_joiner, of_replica, of_server, place_of, site_of}
+pub use Rattle.site_run.specs.Naming.{IsTakenFrom, all_from, as_lent, count_of, joiner_of as place_at, of_dispatcher, of_joiner, of_replica, of_server, place_of, site_of}
 pub use Rattle.site_run.specs.Out.{AreOut}
 pub use Rattle.site_run.specs.Over.{RunsOver}
 pub use Rattle.site_run.specs.Placed.{AllAt, IsDownAt, IsUpAt}
@@ -131,7 +131,7 @@ pub use Rattle.std.specs.List.Sorted.{IsPermutation}
 pub use Rattle.std.specs.Vec.Iter.{into_iter_items, into_iter_len}
 pub use Rattle.time_shards.specs.Shards.{IsTable}
 pub use Rattle.topology_journal.specs.declared.topology.Topology.{Topology}
-pub use Rattle.turn_defs.specs.Configs.{IsOf, IsRunnable}
+pub use Rattle.turn_defs.specs.Configs.{IsRunnable}
 pub use Rattle.turn_defs.specs.Dispatcher.{DispatcherKept, DispatcherLive, dispatcher_at_rest}
 pub use Rattle.turn_defs.specs.Joiner.{JoinerKept, JoinerLive, joiner_at_rest}
 pub use Rattle.turn_defs.specs.Nodes.{Addressed, IsNode, NumbersAreNodes, node_count, node_number, node_of}

@@ -4,21 +4,20 @@ use Rattle.list_words.specs.Lists.{Each}
 use Rattle.log_records.specs.Check.{IsQueryLog}
 use Rattle.log_records.specs.Lines.{end_from}
 use Rattle.turn_defs.specs.Setting.{Setting}
-use Rattle.turn_defs.specs.Configs.{IsOf}
 use Rattle.dispatch_node.specs.Places.{IsLogOf}
 use Rattle.turn_defs.specs.declared.config.Config.{Config}
 
--- The setting has these numbers, and the records of the logs of these names, which are valid; the last whole line of the clicks
+-- The setting has this config, and the records of the logs of these names, which are valid; the last whole line of the clicks
 -- ends there. Here told says what bytes are under a name.
 pub record IsSettingOf (told : List ℕ → Option (List ℕ)) (queries clicks : List ℕ) (config : Config) (end_ : ℕ) (g : Setting) : Type 0 where
-  pub numbers : IsOf config g
+  pub numbers : g.config ≡ config
   pub queries_are : IsSomeAnd (told queries) (λ log. IsQueryLog log g.queries)
   pub clicks_are : IsSomeAnd (told clicks) (λ log. IsLogOf log g)
   pub ends : end_ ≡ end_from 0 g.clicks
 
 -- the same of the logs that are open: the click log and the query log, each opened so many times
 pub record AreLogsOf {L : Type 0} (bytes : L → List ℕ) (clicks queries : List L) (config : Config) (g : Setting) : Type 0 where
-  pub numbers : IsOf config g
+  pub numbers : g.config ≡ config
   pub clicks_are : Each (λ l. IsLogOf (bytes l) g) clicks
   pub queries_are : Each (λ l. IsQueryLog (bytes l) g.queries) queries
 

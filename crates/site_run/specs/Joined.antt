@@ -30,11 +30,11 @@ use Rattle.site_run.specs.Laws.{JoinerStopped}
 
 -- the batches that the replicas' records decide in a shard
 abbrev pub decided_by : Setting → Disks → ℕ → List Batch
-decided_by g d = decided (journals g.replicas d.replicas)
+decided_by g d = decided (journals g.config.replicas d.replicas)
 
 -- the bound stands in an accepted record
 abbrev pub IsAcceptedBound : Setting → Disks → ℕ → Type 0
-IsAcceptedBound g d bound = (r : ℕ) × (at : Place) × (b : Ballot) × (v : Batch) × (r < g.replicas) × Mem (Accepted at b v) (d.replicas r).notes × (v.bound ≡ bound)
+IsAcceptedBound g d bound = (r : ℕ) × (at : Place) × (b : Ballot) × (v : Batch) × (r < g.config.replicas) × Mem (Accepted at b v) (d.replicas r).notes × (v.bound ≡ bound)
 
 -- an insert of the id by the token that holds it stood in an accepted record
 abbrev pub WasHeld : Setting → (old new : Disks) → EventId → Type 0
@@ -48,8 +48,8 @@ pub record Rested (g : Setting) (before after : Images) (faulted : Type 0) (left
   pub were_kept : AreLeft g before opened
   pub keeps : (disk : DiskName) → IsDisk g disk → (c : List ℕ) → after disk c → KeepsOf g left disk c
   pub drained : (s : ℕ) → s < 2 → IsDrained g (left.dispatchers s)
-  pub bounds : (s : ℕ) → s < shards g → g.horizon ≤ bound_of (decided_by g left s)
-  pub no_others : (s : ℕ) → s < shards g → (bound_of (decided_by g left s) ≡ g.horizon) ⊎ IsAcceptedBound g opened.disks (bound_of (decided_by g left s))
+  pub bounds : (s : ℕ) → s < shards g → g.config.horizon ≤ bound_of (decided_by g left s)
+  pub no_others : (s : ℕ) → s < shards g → (bound_of (decided_by g left s) ≡ g.config.horizon) ⊎ IsAcceptedBound g opened.disks (bound_of (decided_by g left s))
   pub missing : (faulted → ⊥) → (i : EventId) → IsMissing g (known_of g left []) i → WasHeld g opened.disks left i
 
 -- These are the lines of the report of the records that the disks keep.
@@ -63,7 +63,7 @@ pub record JoinsAfresh (g : Setting) (faulted : Type 0) (lines : List ReportLine
   pub left : Disks
   pub are : lines ≡ report g left
   pub exact : (l : ClickLine) → Mem l g.clicks → IsExact g left l.click
-  pub whole : (faulted → ⊥) → logs.text_of lines ≡ logs.report g.queries (map (λ (l : ClickLine). l.click) g.clicks) g.horizon
+  pub whole : (faulted → ⊥) → logs.text_of lines ≡ logs.report g.queries (map (λ (l : ClickLine). l.click) g.clicks) g.config.horizon
 
 -- This history is a run from nothing that has come to rest, and these are the lines of the report of the records at its end. Each
 -- click's line is that of the two logs, or the click is missing; unless a joiner stopped all are those of the two logs.
@@ -74,4 +74,4 @@ pub record RanAfresh (g : Setting) (h : List BusEntry) (lines : List ReportLine)
   pub rest : IsAtRest g (world_after g (opening empty_disks) entries)
   pub are : lines ≡ report g (disks (world_after g (opening empty_disks) entries))
   pub exact : (l : ClickLine) → Mem l g.clicks → IsExact g (disks (world_after g (opening empty_disks) entries)) l.click
-  pub whole : (JoinerStopped g h → ⊥) → lines ≡ map (logs.line_of g.queries g.horizon) (logs.distinct (map (λ (l : ClickLine). l.click) g.clicks))
+  pub whole : (JoinerStopped g h → ⊥) → lines ≡ map (logs.line_of g.queries g.config.horizon) (logs.distinct (map (λ (l : ClickLine). l.click) g.clicks))

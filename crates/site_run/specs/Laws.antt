@@ -22,13 +22,13 @@ use Rattle.site_node.specs.declared.kind.NodeDisk.{NodeDisk}
 use Rattle.site_node.specs.declared.kind.SiteNode.{Ghosts}
 use Rattle.site_run.specs.AnyNodes.{AnyState, any_of}
 use Rattle.site_run.specs.Held.{HoldsAs, HaveGoneOn}
-use Rattle.site_run.specs.Naming.{log_read, numbers_of}
+use Rattle.site_run.specs.Naming.{log_read}
 use Rattle.site_run.specs.Resting.{IsClosed, KeepsAs}
 
 -- The nodes of a setting in the order of their numbers, and the disks that each has by its number: they hold what its state says.
 pub record AllHold {N D : Type 0} (image : D → List ℕ → Type 0) (disks_of : ℕ → N → List (Lent D)) (g : Setting) (at : (n : Node) → StateOf n) (nodes : List N) : Type 0 where
   pub count : length nodes ≡ node_count g
-  pub each : (n : Node) → IsNode g n → (a : N) → HoldsAs image (numbers_of g) n (at n) (disks_of (node_number n) (slice_index_or nodes (node_number n) a))
+  pub each : (n : Node) → IsNode g n → (a : N) → HoldsAs image g.config n (at n) (disks_of (node_number n) (slice_index_or nodes (node_number n) a))
 
 -- of a setting's disk a stop leaves what it may leave of the topology's or of a node's
 abbrev pub IsLeftBy : {D : Type 0} → (D → List ℕ → Type 0) → Setting → Lent D → List (Lent D) → Images → Type 0

@@ -18,7 +18,7 @@ use Rattle.site_run.specs.Laws.{JoinerStopped}
 
 -- what verification makes of the journals: a line for each click id
 abbrev pub lines_by : Setting → Journals → List ReportLine
-lines_by g js = map (λ (c : Click). line_of js g.table c.id) (distinct (map (λ (l : ClickLine). l.click) g.clicks))
+lines_by g js = map (λ (c : Click). line_of js g.config.table c.id) (distinct (map (λ (l : ClickLine). l.click) g.clicks))
 
 -- these are the lines
 abbrev pub AreLinesBy : Setting → Journals → List ReportLine → Type 0
@@ -34,7 +34,7 @@ RestJoins g before after faulted =
 abbrev pub RestJoinsAfresh : Setting → (before after : Images) → (faulted : Type 0) → Type 0
 RestJoinsAfresh g before after faulted =
     (h : List BusEntry) (js : Journals) (lines : List ReportLine) →
-    Checked g → IsTable g.table → LeavesNothing g before → RestLeft g before after h faulted js → AreLinesBy g js lines → JoinsAfresh g faulted lines
+    Checked g → IsTable g.config.table → LeavesNothing g before → RestLeft g before after h faulted js → AreLinesBy g js lines → JoinsAfresh g faulted lines
 
 -- what is missing by the run's own history: it is so unless a joiner stopped in it
 abbrev pub RestJoinsByStops : Setting → (before after : Images) → (faulted : Type 0) → Type 0
@@ -45,4 +45,4 @@ RestJoinsByStops g before after faulted =
 abbrev pub RestRanAfresh : Setting → (before after : Images) → (faulted : Type 0) → Type 0
 RestRanAfresh g before after faulted =
     (h : List BusEntry) (js : Journals) (lines : List ReportLine) →
-    Checked g → IsTable g.table → LeavesNothing g before → RestLeft g before after h faulted js → AreLinesBy g js lines → RanAfresh g h lines
+    Checked g → IsTable g.config.table → LeavesNothing g before → RestLeft g before after h faulted js → AreLinesBy g js lines → RanAfresh g h lines

@@ -7,17 +7,13 @@ use Rattle.run_fault.specs.declared.fault.LogName.TheVariants.{Queries, Clicks}
 use Rattle.turn_defs.specs.declared.node.Node.{Node}
 use Rattle.turn_defs.specs.declared.node.Node.TheVariants.{Dispatcher, Server, Replica, Joiner}
 use Rattle.turn_defs.specs.declared.config.Config.{Config}
-use Rattle.turn_defs.specs.Setting.{Setting}
 use Rattle.site_store.specs.Lent.{Lent}
 use Rattle.site_store.specs.declared.lent.disk.LentDisk.{LentDisk}
 
 abbrev pub as_lent : {D : Type 0} → LentDisk D → Lent D
 as_lent d = record { name = d.name; disk = d.disk }
 
--- the numbers of a setting, as its nodes have them, and how many nodes there are
-abbrev pub numbers_of : Setting → Config
-numbers_of g = record { horizon = g.horizon; joiners = g.joiners; table = g.table; batch = g.batch; replicas = g.replicas }
-
+-- how many nodes there are
 abbrev pub count_of : Config → ℕ
 count_of config = 4 + config.replicas + 2 * config.joiners
 

@@ -28,13 +28,13 @@ use Rattle.site_store.specs.Records.{KeptDisk, KeptValues, AreKept}
 use Rattle.site_store.specs.Causes.{HasCause, HasPassed as PassesFor}
 use Rattle.site_store.specs.ReadBack.{is_read}
 use Rattle.site_run.specs.Causes.{disk_of}
-use Rattle.site_run.specs.Naming.{log_read, names_of, numbers_of}
+use Rattle.site_run.specs.Naming.{log_read, names_of}
 use Rattle.site_run.specs.Running.{ComesToLast}
 use Rattle.site_run.specs.declared.ran.RunLog.{RunLog}
 
 -- the topology that a setting asks for
 abbrev pub asked_of : Setting → Topology
-asked_of g = record { joiners = g.joiners; table = g.table }
+asked_of g = record { joiners = g.config.joiners; table = g.config.table }
 
 -- what is told of the places of the click log that its disks keep: the first that doesn't fit, or none
 abbrev pub TellsPlaces : Setting → List KeptDisk → Option Misplaced → Type 0
@@ -48,11 +48,11 @@ PlacesFit g k = TellsPlaces g k.disks None
 module _ (g : Setting) (before : Images) where
   -- the disks that were opened kept these values
   abbrev pub Kept : KeptValues → Type 0
-  Kept k = AreKept true before g.replicas g.joiners k
+  Kept k = AreKept true before g.config.replicas g.config.joiners k
 
   -- they kept values that can be run
   abbrev pub HasPassed : Type 0
-  HasPassed = PassesFor true before g.replicas (Some (asked_of g)) (TellsPlaces g)
+  HasPassed = PassesFor true before g.config.replicas (Some (asked_of g)) (TellsPlaces g)
 
   -- The disk kept an epoch that is below the last one by no more than a node may stop.
   abbrev pub IsNearLast : DiskName → Type 0
@@ -66,13 +66,13 @@ module _ (g : Setting) (before : Images) where
   -- Why a run gives up. Read and faulted say that the count of the logs' faults rose, and that of the disks'. A limit is told of
   -- what the disks kept, or late.
   abbrev pub IsCauseOf : (read faulted : Type 0) → RunFault → Type 0
-  IsCauseOf read faulted f = HasCause true before g.replicas (Some (asked_of g)) (TellsPlaces g) (λ log. read) (λ at. faulted) (IsLate faulted f) ⊤ f
+  IsCauseOf read faulted f = HasCause true before g.config.replicas (Some (asked_of g)) (TellsPlaces g) (λ log. read) (λ at. faulted) (IsLate faulted f) ⊤ f
 
   -- ---- disks that are opened
 
   -- the disk is opened, with whatever number of joiners the topology's may have kept
   abbrev pub IsTaken : DiskName → Type 0
-  IsTaken disk = (kept : Option Topology) → IsKeptIn (before name.Topology) (KeepsTopology kept) → Mem disk (name.Topology ∷ other_names (joiners_kept kept g.joiners) g.replicas)
+  IsTaken disk = (kept : Option Topology) → IsKeptIn (before name.Topology) (KeepsTopology kept) → Mem disk (name.Topology ∷ other_names (joiners_kept kept g.config.joiners) g.config.replicas)
 
   -- a stop might have left a journal of its kind
   abbrev pub WasJournal : DiskName → Type 0
@@ -102,7 +102,7 @@ module _ (g : Setting) (h : List BusEntry) where
   NamesFailed (fault.Read log) = (n : Node) × IsNode g n × (log_read n ≡ Some log) × IsInTurn n
   NamesFailed (fault.Store (place.Node n)) = HasEnded n
   NamesFailed (fault.Store (place.Disk disk)) =
-      ((n : Node) × IsNode g n × Mem disk (names_of (numbers_of g) n) × IsInTurn n) ⊎ (((n : Node) → IsNode g n → IsInTurn n → ⊥) × IsDisk g disk × (is_read disk ≡ true))
+      ((n : Node) × IsNode g n × Mem disk (names_of g.config n) × IsInTurn n) ⊎ (((n : Node) → IsNode g n → IsInTurn n → ⊥) × IsDisk g disk × (is_read disk ≡ true))
   NamesFailed (fault.Store place.Directory) = ⊥
   NamesFailed _ = ⊤
 
@@ -111,7 +111,7 @@ module _ (g : Setting) (h : List BusEntry) where
   pub record IsSpent (d : Disks) (faulted : Type 0) (disk : DiskName) (epoch : ℕ) : Type 0 where
     pub node : Node
     pub is : IsNode g node
-    pub named : disk ≡ disk_of (numbers_of g) (node_number node) First
+    pub named : disk ≡ disk_of g.config (node_number node) First
     pub came : ComesToLast d h node epoch
     pub few : stops_of node ≤ 8
     pub met : 1 ≤ stops_of node → faulted

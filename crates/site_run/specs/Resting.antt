@@ -11,7 +11,7 @@ use Rattle.turn_defs.specs.Setting.{Setting}
 use Rattle.turn_defs.specs.Nodes.{IsNode, node_number, node_count}
 use Rattle.site_store.specs.Lent.{Lent}
 use Rattle.site_laws.specs.Kinds.{StateOf}
-use Rattle.site_run.specs.Naming.{numbers_of, of_dispatcher, of_server, of_replica, of_joiner}
+use Rattle.site_run.specs.Naming.{of_dispatcher, of_server, of_replica, of_joiner}
 use Rattle.site_laws.specs.Stores.{KeepsVotes}
 
 -- the node has no open turn
@@ -56,4 +56,4 @@ module _ {D : Type 0} (image : D → List ℕ → Type 0) where
 -- The nodes of a setting in the order of their numbers, each with such disks.
 pub record AllKeep {N D : Type 0} (image : D → List ℕ → Type 0) (disks_of : ℕ → N → List (Lent D)) (g : Setting) (at : (n : Node) → StateOf n) (nodes : List N) : Type 0 where
   pub count : length nodes ≡ node_count g
-  pub each : (n : Node) → IsNode g n → (a : N) → KeepsAs image (numbers_of g) n (at n) (disks_of (node_number n) (slice_index_or nodes (node_number n) a))
+  pub each : (n : Node) → IsNode g n → (a : N) → KeepsAs image g.config n (at n) (disks_of (node_number n) (slice_index_or nodes (node_number n) a))

@@ -14,7 +14,7 @@ use Rattle.turn_defs.specs.Nodes.{IsNode, node_number}
 use Rattle.site_store.specs.Lent.{Lent}
 use Rattle.site_laws.specs.Laws.{made_by}
 use Rattle.site_workers.specs.Works.{stop_count}
-use Rattle.site_run.specs.Naming.{names_of, numbers_of}
+use Rattle.site_run.specs.Naming.{names_of}
 use Rattle.site_run.specs.declared.ran.RunLog.{RunLog}
 
 -- so many all in all, of each of these as many as it has
@@ -24,12 +24,12 @@ AllInAll has (x ∷ xs) k = (i : ℕ) × (j : ℕ) × has x i × AllInAll has xs
 
 -- No node has stopped more often than was planned for its disks. Left says that at most so many stops were of a disk.
 abbrev pub StopsAsPlanned : (left : DiskName → ℕ → Type 0) → Setting → List BusEntry → Type 0
-StopsAsPlanned left g h = (n : Node) → IsNode g n → (k : ℕ) → AllInAll left (names_of (numbers_of g) n) k → stop_count (made_by (node_number n) h) ≤ k
+StopsAsPlanned left g h = (n : Node) → IsNode g n → (k : ℕ) → AllInAll left (names_of g.config n) k → stop_count (made_by (node_number n) h) ≤ k
 
 -- No disk's stop is met while it is opened, and of each node's disks at most one is planned.
 pub record AreSpared (left : DiskName → ℕ → Type 0) (soon : DiskName → Type 0) (g : Setting) : Type 0 where
   pub late : (disk : DiskName) → soon disk → ⊥
-  pub few : (n : Node) → IsNode g n → AllInAll left (names_of (numbers_of g) n) 1
+  pub few : (n : Node) → IsNode g n → AllInAll left (names_of g.config n) 1
 
 -- A run over a store of whose disks this is said, and whose count of faults stood so before it and stands so after it. Where it began it
 -- stops its nodes as planned, where no stop is planned no disk meets a fault, and where nodes are spared it gives up for none of its disks.

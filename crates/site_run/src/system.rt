@@ -13,7 +13,7 @@ ghost use Rattle.site_laws.specs.Stores.{SameRecords};
 ghost use Rattle.site_run.specs.Heard.{IsHeardOf, kinds_of};
 ghost use Rattle.site_run.specs.Running.{AreDownOver};
 ghost use Rattle.site_run.specs.Naming.{as_lent, all_from, count_of};
-ghost use Rattle.turn_defs.specs.Configs.{IsOf, IsRunnable};
+ghost use Rattle.turn_defs.specs.Configs.{IsRunnable};
 ghost use Rattle.run_fault.specs.Causes.{IsCounted};
 ghost use Rattle.site_run.specs.Refused.{IsOfRun, NamesEnded};
 ghost use Rattle.site_run.specs.Laws.{AreHeld, AreMet, KeepsItsRecord};
@@ -63,11 +63,11 @@ where
     requires none { ran.old.log ≡ None }
     // Where no run began each disk is given back as it was.
     ensures idle { IsTrue S.Disk.tells → ran.new.log ≡ None → (disk : DiskName) (c : List ℕ) → S.image store.new disk c → MayBeLeft S.Disk.image (S.image store.old) (as_lent topology ∷ all_from (N.disks_of config.now) 0 nodes.items) disk c }
-    ensures grown { IsTrue S.Disk.tells → IsTrue N.tells → (g : Setting) (d : Disks) (s : S) → IsOf config.now g → AreHeld S.Disk.image N.places N.grown N.disks_of → AreDownOver N.places g d nodes.items
+    ensures grown { IsTrue S.Disk.tells → IsTrue N.tells → (g : Setting) (d : Disks) (s : S) → g.config ≡ config.now → AreHeld S.Disk.image N.places N.grown N.disks_of → AreDownOver N.places g d nodes.items
         → AreOut S.Disk.image (S.image s) (S.image store.old) (as_lent topology) (all_from (N.disks_of config.now) 0 nodes.items) → (disk : DiskName) → GoesOn (S.image s disk) (S.image store.new disk) }
-    ensures left { IsTrue S.Disk.tells → IsTrue N.tells → (g : Setting) (d e : Disks) → IsOf config.now g → AreHeld S.Disk.image N.places N.grown N.disks_of → AreDownOver N.places g d nodes.items
+    ensures left { IsTrue S.Disk.tells → IsTrue N.tells → (g : Setting) (d e : Disks) → g.config ≡ config.now → AreHeld S.Disk.image N.places N.grown N.disks_of → AreDownOver N.places g d nodes.items
         → SameRecords g d e → KeepsItsRecord S.Disk.image g (as_lent topology) → IfSome ran.new.log (λ l. HasRun g e l.air.history (S.image store.new)) }
-    ensures rest { IsTrue S.Disk.tells → IsTrue N.tells → (g : Setting) (d e : Disks) → IsOf config.now g → AreHeld S.Disk.image N.places N.grown N.disks_of
+    ensures rest { IsTrue S.Disk.tells → IsTrue N.tells → (g : Setting) (d e : Disks) → g.config ≡ config.now → AreHeld S.Disk.image N.places N.grown N.disks_of
         → AreMet S.Disk.faults F.Log.faults N.SiteNode N.places N.disks_of N.logs_of → AreDownOver N.places g d nodes.items → SameRecords g d e → KeepsItsRecord S.Disk.image g (as_lent topology)
         → IfOk result (λ outcome. IsSomeAnd ran.new.log (λ l. HasRested g e l.air.history (S.image store.new) (Rose (S.faults store.old) (S.faults store.new)) outcome.journals)) }
     ensures heard { IfSome ran.new.log (IsHeardOf plan config.now.joiners config.now.replicas) }
@@ -75,13 +75,13 @@ where
     ensures cause { AreMet S.Disk.faults F.Log.faults N.SiteNode N.places N.disks_of N.logs_of
         → IfErr result (IsCounted (Rose (F.faults files.old) (F.faults files.new)) (Rose (S.faults store.old) (S.faults store.new))) }
     // No disk is told as damaged. What failed is named by the nodes' entries, and a limit of a node that came to its last epoch by them.
-    ensures whole { IsTrue S.Disk.tells → IsTrue N.tells → (g : Setting) (d : Disks) → IsOf config.now g → AreHeld S.Disk.image N.places N.grown N.disks_of
+    ensures whole { IsTrue S.Disk.tells → IsTrue N.tells → (g : Setting) (d : Disks) → g.config ≡ config.now → AreHeld S.Disk.image N.places N.grown N.disks_of
         → AreMet S.Disk.faults F.Log.faults N.SiteNode N.places N.disks_of N.logs_of → AreDownOver N.places g d nodes.items → KeepsItsRecord S.Disk.image g (as_lent topology)
         → IfErr result (IsOfRun g d (Rose (S.faults store.old) (S.faults store.new)) ran.new.log) }
     ensures stopped { IfErr result (NamesEnded ran.new.log) }
     // No node stops more often than was planned for its disks, and where no stop is planned no disk meets a fault. Where nodes are spared it
     // gives up for none of their disks.
-    ensures stops { IsTrue S.Disk.planned → IsTrue N.planned → (g : Setting) (d : Disks) (s : S) → IsOf config.now g → AreHeld S.Disk.image N.places N.grown N.disks_of → AreDownOver N.places g d nodes.items
+    ensures stops { IsTrue S.Disk.planned → IsTrue N.planned → (g : Setting) (d : Disks) (s : S) → g.config ≡ config.now → AreHeld S.Disk.image N.places N.grown N.disks_of → AreDownOver N.places g d nodes.items
         → ArePlanned S.Disk.stops S.Disk.made S.Disk.faults S.Disk.is_down N.stops_left N.faults N.waits N.disks_of → topology.name ≡ name.Topology
         → AllAsPlanned S.Disk.stops S.Disk.made S.Disk.faults (Left S.stops S.made s) (as_lent topology ∷ all_from (N.disks_of config.now) 0 nodes.items)
         → RunsAsPlanned (Left S.stops S.made s) (HasSoon S.stops S.made s) g ran.new.log (S.faults store.old) (S.faults store.new) result }

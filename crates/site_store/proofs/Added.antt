@@ -134,7 +134,7 @@ module _ {D : Type 0} (tells : Bool) (sure : IsTrue tells) (left : D → List �
   abbrev k : KeptValues
   k = values_of kept disks
 
-  module _ (g : Setting) (same : g.replicas ≡ replicas) (sound : IsSoundStore g before) (b : Bytes) (choice : IsChoice g after b) where
+  module _ (g : Setting) (same : g.config.replicas ≡ replicas) (sound : IsSoundStore g before) (b : Bytes) (choice : IsChoice g after b) where
     it : IsLonger k.topology (accepted k.disks) row t
     it = answered k.topology (accepted k.disks) row t answer.is
 
@@ -144,7 +144,7 @@ module _ {D : Type 0} (tells : Bool) (sure : IsTrue tells) (left : D → List �
       | inr not ↦ let x = others disk not (b disk) (choice disk here) in (x.0, x.1)
     ]
 
-    are_own : AreKept tells before g.replicas 0 k
+    are_own : AreKept tells before g.config.replicas 0 k
     are_own = subst (λ n. AreKept tells before n 0 k) (sym same) are
 
     -- the kept topology is the setting's
@@ -160,7 +160,7 @@ module _ {D : Type 0} (tells : Bool) (sure : IsTrue tells) (left : D → List �
     says : AreRecordsOf g k.disks records
     says = of tells sure before g k are_own it.was it.is_kept asked
 
-    names : map (λ d. d.name) k.disks ≡ other_names g.joiners g.replicas
+    names : map (λ d. d.name) k.disks ≡ other_names g.config.joiners g.config.replicas
     names = named tells sure before g k are_own it.was it.is_kept asked
 
     row_added : IsRowAdded g row before after
@@ -177,7 +177,7 @@ module _ {D : Type 0} (tells : Bool) (sure : IsTrue tells) (left : D → List �
       free = ap (λ (js : List (List BallotNote)). too_soon_for (all_batches js) row.start) (sym (notes_are g records k.disks names are.kinds says)) ∙ it.free;
     }
 
-    longer_is : t ≡ journal.topology_of g.joiners (g.table ++ row ∷ [])
+    longer_is : t ≡ journal.topology_of g.config.joiners (g.config.table ++ row ∷ [])
     longer_is = sym it.longer ∙ ap (λ (u : PlainTopology). journal.topology_of u.joiners (u.table ++ row ∷ [])) own
 
     sound_longer : RowIsSound g before after → IsWritten (before name.Topology) t (b name.Topology) → KeepSound (with_row g row) b

@@ -33,12 +33,12 @@ no_pairs replicas (name.Epoch s j) kept (v, is) named = ap pairs_at is
 no_pairs replicas (name.Output s j) kept (v, is) named = absurd (omega (arith, named.1))
 
 module _ (tells : Bool) (sure : IsTrue tells) (image : DiskName → List ℕ → Type 0) (one : KeepOneTopology) (read_topology : ReadTopologyIsKept) (g : Setting) (some : LeavesSomething g image)
-    (sound : IsSoundStore g image) (v : KeptValues) (kept : AreKept tells image g.replicas 0 v) (none : v.topology ≡ None) where
+    (sound : IsSoundStore g image) (v : KeptValues) (kept : AreKept tells image g.config.replicas 0 v) (none : v.topology ≡ None) where
   many_none : joiners_kept v.topology 0 ≡ 0
   many_none = ap (λ (t : Option Topology). joiners_kept t 0) none
 
-  named : map (λ d. d.name) v.disks ≡ other_names 0 g.replicas
-  named = kept.named ∙ ap (λ n. other_names n g.replicas) many_none
+  named : map (λ d. d.name) v.disks ≡ other_names 0 g.config.replicas
+  named = kept.named ∙ ap (λ n. other_names n g.config.replicas) many_none
 
   abbrev its : Store
   its = (all_sound tells sure image 0 g v kept some sound).0
@@ -66,22 +66,22 @@ module _ (tells : Bool) (sure : IsTrue tells) (image : DiskName → List ℕ →
   no_notes (name.Epoch s j) kd (x, is) here keeps = ap notes_at is
   no_notes (name.Output s j) kd (x, is) here keeps = ap notes_at is
 
-  pub notes_blank : flat_map (λ d. notes_at d.kept) v.disks ≡ values_from (λ r. []) 0 g.replicas
+  pub notes_blank : flat_map (λ d. notes_at d.kept) v.disks ≡ values_from (λ r. []) 0 g.config.replicas
   notes_blank =
       let all = each_from (λ (d : KeptDisk). notes_at d.kept ≡ blank_notes d.name) v.disks (λ d among.
       let here = are_disks tells sure image 0 g v kept some sound (omega (arith, many_none)) d among in
       no_notes d.name d.kept (each_mem (λ (o : KeptDisk). IsOfKind o.name o.kept) d v.disks kept.kinds among) here (held tells sure image 0 g v kept some sound d among here)) in
-      by_names notes_at blank_notes v.disks all ∙ ap (flat_map blank_notes) named ∙ by_replicas 0 g.replicas blank_notes (λ r. []) refl (λ s j. refl) (λ r. refl) (λ s j. refl)
+      by_names notes_at blank_notes v.disks all ∙ ap (flat_map blank_notes) named ∙ by_replicas 0 g.config.replicas blank_notes (λ r. []) refl (λ s j. refl) (λ r. refl) (λ s j. refl)
 
   pub pairs_blank : flat_map (λ d. pairs_at d.kept) v.disks ≡ []
   pairs_blank =
       let all = each_from (λ (d : KeptDisk). pairs_at d.kept ≡ []) v.disks (λ d among.
-      no_pairs g.replicas d.name d.kept (each_mem (λ (o : KeptDisk). IsOfKind o.name o.kept) d v.disks kept.kinds among)
-      (each_mem (IsNamed 0 g.replicas) d.name _ (subst (Each (IsNamed 0 g.replicas)) (sym named) (each_named 0 g.replicas)) (named_mem v.disks d among))) in
+      no_pairs g.config.replicas d.name d.kept (each_mem (λ (o : KeptDisk). IsOfKind o.name o.kept) d v.disks kept.kinds among)
+      (each_mem (IsNamed 0 g.config.replicas) d.name _ (subst (Each (IsNamed 0 g.config.replicas)) (sym named) (each_named 0 g.config.replicas)) (named_mem v.disks d among))) in
       flat_none (λ (d : KeptDisk). pairs_at d.kept) v.disks all
 
 pub read_nothing : (tells : Bool) → IsTrue tells → (image : DiskName → List ℕ → Type 0) (replicas : ℕ) (log_tells : Bool) (log : List ℕ) (end_ : ℕ) → KeepOneTopology → ReadTopologyIsKept → (k : KeptStore) → IsRead tells image replicas log_tells log end_ k
-    → (g : Setting) → k.topology ≡ None → g.replicas ≡ replicas → LeavesSomething g image → IsSoundStore g image → KeepsNothing replicas k.journals
+    → (g : Setting) → k.topology ≡ None → g.config.replicas ≡ replicas → LeavesSomething g image → IsSoundStore g image → KeepsNothing replicas k.journals
 read_nothing tells sure image replicas log_tells log end_ one read_topology k is g is_none same some sound =
     let none = is.told.topology ∙ is_none in
     let kept = subst (λ n. AreKept tells image n 0 is.values) (sym same) is.kept in

@@ -73,27 +73,27 @@ module _ (g : Setting) (image : DiskName → List ℕ → Type 0) (some : Leaves
   never_damaged at damaged = undamaged disk c at (subst (IsJournalOf disk) chosen_is (journal_is g chosen.0 all_sound.0 all_sound.1 disk here)) damaged
 
 -- a topology that is kept has as many joiners as the setting
-pub kept_joiners : ReadTopologyIsKept → TopologyFits → (g : Setting) (image : DiskName → List ℕ → Type 0) → LeavesSomething g image → IsSoundStore g image → (kept : Option Topology) (asked : ℕ) → asked ≤ g.joiners
-    → IsKeptIn (image name.Topology) (Keeps kept) → joiners_kept kept asked ≤ g.joiners
+pub kept_joiners : ReadTopologyIsKept → TopologyFits → (g : Setting) (image : DiskName → List ℕ → Type 0) → LeavesSomething g image → IsSoundStore g image → (kept : Option Topology) (asked : ℕ) → asked ≤ g.config.joiners
+    → IsKeptIn (image name.Topology) (Keeps kept) → joiners_kept kept asked ≤ g.config.joiners
 kept_joiners read fits g image some sound None asked is kept_in = is
 kept_joiners read fits g image some sound (Some t) asked is (c, now, keeps) =
     let b = (chosen g image some sound name.Topology tt c now).0 in
     let kept : KeepsTopology (Some (record { joiners = t.joiners; table = t.table })) (b name.Topology) =
     subst (λ (x : List ℕ). KeepsTopology (Some (record { joiners = t.joiners; table = t.table })) x) (sym (chosen_is g image some sound name.Topology tt c now)) (read (Some t) c keeps) in
-    let same : t.joiners ≡ g.joiners = ap (λ (u : PlainTopology). u.joiners) (fits g b (record { joiners = t.joiners; table = t.table }) (all_sound g image some sound name.Topology tt c now) kept) in
+    let same : t.joiners ≡ g.config.joiners = ap (λ (u : PlainTopology). u.joiners) (fits g b (record { joiners = t.joiners; table = t.table }) (all_sound g image some sound name.Topology tt c now) kept) in
     omega (arith, same)
 
 -- ---- what isn't told of a sound store
 
-module _ (tells : Bool) (sure : IsTrue tells) (image : DiskName → List ℕ → Type 0) (asked : ℕ) (read : ReadTopologyIsKept) (fits : TopologyFits) (g : Setting) (le : asked ≤ g.joiners)
+module _ (tells : Bool) (sure : IsTrue tells) (image : DiskName → List ℕ → Type 0) (asked : ℕ) (read : ReadTopologyIsKept) (fits : TopologyFits) (g : Setting) (le : asked ≤ g.config.joiners)
     (sound : IsSoundStore g image) where
-  is_disk : (disk : DiskName) → LeavesSomething g image → IsFirstDisk tells image g.replicas asked disk → IsDisk g disk
+  is_disk : (disk : DiskName) → LeavesSomething g image → IsFirstDisk tells image g.config.replicas asked disk → IsDisk g disk
   is_disk disk some (inl topology) = subst (IsDisk g) (sym topology) tt
   is_disk disk some (inr (kept, kept_in, first)) =
       let n_le = kept_joiners read fits g image some sound kept asked le (kept_in sure) in
-      first_is g tells image (other_names (joiners_kept kept asked) g.replicas) disk (others_are g (joiners_kept kept asked) n_le) first
+      first_is g tells image (other_names (joiners_kept kept asked) g.config.replicas) disk (others_are g (joiners_kept kept asked) n_le) first
 
-  pub no_damage : (disk : DiskName) (at : ℕ) → IsFirstDisk tells image g.replicas asked disk → (IsTrue tells → IsDamagedIn image disk at) → LeavesSomething g image → ⊥
+  pub no_damage : (disk : DiskName) (at : ℕ) → IsFirstDisk tells image g.config.replicas asked disk → (IsTrue tells → IsDamagedIn image disk at) → LeavesSomething g image → ⊥
   no_damage disk at first was some = let (c, now, damaged) = was sure in never_damaged g image some sound disk (is_disk disk some first) c now at damaged
 
 -- and a record that isn't written isn't damaged

@@ -201,7 +201,7 @@ module _ (joiners replicas : ℕ) where
 -- ---- they are the setting's
 
 module _ (g : Setting) where
-  in_setting : (n : ℕ) → n ≤ g.joiners → (disk : DiskName) → IsNamed n g.replicas disk → IsDisk g disk
+  in_setting : (n : ℕ) → n ≤ g.config.joiners → (disk : DiskName) → IsNamed n g.config.replicas disk → IsDisk g disk
   in_setting n le name.Topology is = absurd is
   in_setting n le (name.Offset s) is = is
   in_setting n le (name.Retry s) is = is
@@ -210,10 +210,10 @@ module _ (g : Setting) where
   in_setting n le (name.Epoch s j) is = (is.0, omega (arith, is.1, le))
   in_setting n le (name.Output s j) is = (is.0, omega (arith, is.1, le))
 
-  pub others_are : (n : ℕ) → n ≤ g.joiners → Each (IsDisk g) (other_names n g.replicas)
-  others_are n le = each_weaker (IsNamed n g.replicas) (IsDisk g) (in_setting n le) (other_names n g.replicas) (each_named n g.replicas)
+  pub others_are : (n : ℕ) → n ≤ g.config.joiners → Each (IsDisk g) (other_names n g.config.replicas)
+  others_are n le = each_weaker (IsNamed n g.config.replicas) (IsDisk g) (in_setting n le) (other_names n g.config.replicas) (each_named n g.config.replicas)
 
-  is_other : (disk : DiskName) → IsDisk g disk → disk ≢ name.Topology → IsNamed g.joiners g.replicas disk
+  is_other : (disk : DiskName) → IsDisk g disk → disk ≢ name.Topology → IsNamed g.config.joiners g.config.replicas disk
   is_other name.Topology here other = absurd (other refl)
   is_other (name.Offset s) here other = here
   is_other (name.Retry s) here other = here
@@ -223,5 +223,5 @@ module _ (g : Setting) where
   is_other (name.Output s j) here other = here
 
   -- and all of them but the topology's
-  pub all_named : (disk : DiskName) → IsDisk g disk → disk ≢ name.Topology → Mem disk (other_names g.joiners g.replicas)
-  all_named disk here other = is_named g.joiners g.replicas disk (is_other disk here other)
+  pub all_named : (disk : DiskName) → IsDisk g disk → disk ≢ name.Topology → Mem disk (other_names g.config.joiners g.config.replicas)
+  all_named disk here other = is_named g.config.joiners g.config.replicas disk (is_other disk here other)

@@ -22,13 +22,13 @@ keeps_of read g d (name.Output s j) kept c says keeps = subst (λ (k : Kept). Ke
 abbrev pub IsLeftWith : Setting → (DiskName → List ℕ → Type 0) → Disks → Type 0
 IsLeftWith g image d = (t : Option StoreTopology) × AreLeft g image (record { topology = t; disks = d; is_used = true })
 
-module _ (tells : Bool) (sure : IsTrue tells) (image : DiskName → List ℕ → Type 0) (asked : ℕ) (g : Setting) (k : KeptValues) (kept : AreKept tells image g.replicas asked k) (same : joiners_kept k.topology asked ≡ g.joiners)
+module _ (tells : Bool) (sure : IsTrue tells) (image : DiskName → List ℕ → Type 0) (asked : ℕ) (g : Setting) (k : KeptValues) (kept : AreKept tells image g.config.replicas asked k) (same : joiners_kept k.topology asked ≡ g.config.joiners)
     (d : Disks) (of : AreRecordsOf g k.disks d) where
   records_left : ReadNotesAreKept → (disk : DiskName) → IsDisk g disk → IsKeptIn (image disk) (KeepsOf g d disk)
   records_left read disk here = elim (same_or_not disk name.Topology) [
     | inl is ↦ let x = kept.topology sure in subst (λ (n : DiskName). IsKeptIn (image n) (KeepsOf g d n)) (sym is) (x.0, x.1, tt)
     | inr not ↦
-        let o = at_name k.disks disk (subst (Mem disk) (sym (kept.named ∙ ap (λ n. other_names n g.replicas) same)) (all_named g disk here not)) in
+        let o = at_name k.disks disk (subst (Mem disk) (sym (kept.named ∙ ap (λ n. other_names n g.config.replicas) same)) (all_named g disk here not)) in
         let x = each_mem (IsKept image) o.0 k.disks (kept.kept sure) o.1 in
         let says = each_mem (λ (e : KeptDisk). Says g d e.name e.kept) o.0 k.disks of o.1 in
         subst (λ (n : DiskName). IsKeptIn (image n) (KeepsOf g d n)) o.2 (x.0, x.1, keeps_of read g d o.0.name o.0.kept x.0 says x.2)
@@ -99,7 +99,7 @@ records_of g disks = record {
   dispatchers = λ s. record { offset = offset_in (kept_at disks (name.Offset s)); pending = pending_in (kept_at disks (name.Retry s)) };
   servers = λ s. record { epoch = epoch_in (kept_at disks (name.Server s)) };
   replicas = λ r. kept_of (notes_in (kept_at disks (name.Replica r)));
-  joiners = λ n. joiner_disks g disks (site_in g.joiners (n - first_joiner g)) (place_in g.joiners (n - first_joiner g));
+  joiners = λ n. joiner_disks g disks (site_in g.config.joiners (n - first_joiner g)) (place_in g.config.joiners (n - first_joiner g));
 }
 
 place_is : (first many s j : ℕ) → first + s * many + j - first ≡ s * many + j
@@ -112,14 +112,14 @@ says_at g disks (name.Retry s) kept (v, is) here at = is ∙ ap PendingAre (sym 
 says_at g disks (name.Server s) kept (v, is) here at = is ∙ ap EpochIs (sym (ap epoch_in (at ∙ ap Some is)))
 says_at g disks (name.Replica r) kept (v, is) here at = (v, is, ap (λ o. kept_of (notes_in o)) (at ∙ ap Some is))
 says_at g disks (name.Epoch s j) kept (v, is) here at =
-    let so = joiner_in g.joiners s j (joiner_of g s j - first_joiner g) here.0 here.1 (place_is (first_joiner g) g.joiners s j) in
-    let one : joiner_disks g disks (site_in g.joiners (joiner_of g s j - first_joiner g)) (place_in g.joiners (joiner_of g s j - first_joiner g)) ≡ joiner_disks g disks s j =
-    ap (λ i. joiner_disks g disks i (place_in g.joiners (joiner_of g s j - first_joiner g))) so.0 ∙ ap (joiner_disks g disks s) so.1 in
+    let so = joiner_in g.config.joiners s j (joiner_of g s j - first_joiner g) here.0 here.1 (place_is (first_joiner g) g.config.joiners s j) in
+    let one : joiner_disks g disks (site_in g.config.joiners (joiner_of g s j - first_joiner g)) (place_in g.config.joiners (joiner_of g s j - first_joiner g)) ≡ joiner_disks g disks s j =
+    ap (λ i. joiner_disks g disks i (place_in g.config.joiners (joiner_of g s j - first_joiner g))) so.0 ∙ ap (joiner_disks g disks s) so.1 in
     is ∙ ap EpochIs (sym (ap (λ (x : JoinerKept). x.epoch) one ∙ ap epoch_in (at ∙ ap Some is)))
 says_at g disks (name.Output s j) kept (v, is) here at =
-    let so = joiner_in g.joiners s j (joiner_of g s j - first_joiner g) here.0 here.1 (place_is (first_joiner g) g.joiners s j) in
-    let one : joiner_disks g disks (site_in g.joiners (joiner_of g s j - first_joiner g)) (place_in g.joiners (joiner_of g s j - first_joiner g)) ≡ joiner_disks g disks s j =
-    ap (λ i. joiner_disks g disks i (place_in g.joiners (joiner_of g s j - first_joiner g))) so.0 ∙ ap (joiner_disks g disks s) so.1 in
+    let so = joiner_in g.config.joiners s j (joiner_of g s j - first_joiner g) here.0 here.1 (place_is (first_joiner g) g.config.joiners s j) in
+    let one : joiner_disks g disks (site_in g.config.joiners (joiner_of g s j - first_joiner g)) (place_in g.config.joiners (joiner_of g s j - first_joiner g)) ≡ joiner_disks g disks s j =
+    ap (λ i. joiner_disks g disks i (place_in g.config.joiners (joiner_of g s j - first_joiner g))) so.0 ∙ ap (joiner_disks g disks s) so.1 in
     is ∙ ap PairsAre (sym (ap (λ (x : JoinerKept). x.pairs) one ∙ ap pairs_in (at ∙ ap Some is)))
 
 pub each_from : {A : Type 0} (P : A → Type 0) (xs : List A) → ((x : A) → Mem x xs → P x) → Each P xs

@@ -62,39 +62,39 @@ module _ (g : Setting) (d : Disks) where
   abbrev of_site : ℕ → ℕ → List PairRec
   of_site s j = (d.joiners (joiner_of g s j)).pairs
 
-  module _ (disks : List KeptDisk) (named : map (λ o. o.name) disks ≡ other_names g.joiners g.replicas) (kinds : Each (λ o. IsOfKind o.name o.kept) disks) (of : AreRecordsOf g disks d) where
-    pub notes_are : map (map note_view) (flat_map (λ o. notes_at o.kept) disks) ≡ journals g.replicas d.replicas
+  module _ (disks : List KeptDisk) (named : map (λ o. o.name) disks ≡ other_names g.config.joiners g.config.replicas) (kinds : Each (λ o. IsOfKind o.name o.kept) disks) (of : AreRecordsOf g disks d) where
+    pub notes_are : map (map note_view) (flat_map (λ o. notes_at o.kept) disks) ≡ journals g.config.replicas d.replicas
     notes_are =
         let by = each_two (λ (o : KeptDisk). IsOfKind o.name o.kept) (λ (o : KeptDisk). Says g d o.name o.kept) (λ (o : KeptDisk). map (map note_view) (notes_at o.kept) ≡ notes_by o.name) disks (λ o kind says. notes_said o.name o.kept kind says) kinds of in
         map_flat (λ (o : KeptDisk). notes_at o.kept) (map note_view) disks ∙ by_names (λ k. map (map note_view) (notes_at k)) notes_by disks by ∙ ap (flat_map notes_by) named
-        ∙ by_replicas g.joiners g.replicas notes_by (λ r. (d.replicas r).notes) refl (λ s j. refl) (λ r. refl) (λ s j. refl)
+        ∙ by_replicas g.config.joiners g.config.replicas notes_by (λ r. (d.replicas r).notes) refl (λ s j. refl) (λ r. refl) (λ s j. refl)
 
-    pub pairs_are : flat_map (λ o. pairs_at o.kept) disks ≡ values_from (λ j. (d.joiners j).pairs) (first_joiner g) (2 * g.joiners)
+    pub pairs_are : flat_map (λ o. pairs_at o.kept) disks ≡ values_from (λ j. (d.joiners j).pairs) (first_joiner g) (2 * g.config.joiners)
     pairs_are =
         let f : ℕ → List PairRec = λ j. (d.joiners j).pairs in
-        let n = g.joiners in
+        let n = g.config.joiners in
         let by = each_two (λ (o : KeptDisk). IsOfKind o.name o.kept) (λ (o : KeptDisk). Says g d o.name o.kept) (λ (o : KeptDisk). pairs_at o.kept ≡ pairs_by o.name) disks (λ o kind says. pairs_said o.name o.kept kind says) kinds of in
         let first : values_from (of_site 0) 0 n ≡ values_from f (first_joiner g) n = values_same (of_site 0) f 0 (first_joiner g) n (λ i lt. ap f (omega arith)) in
         let second : values_from (of_site 1) 0 n ≡ values_from f (first_joiner g + n) n = values_same (of_site 1) f 0 (first_joiner g + n) n (λ i lt. ap f (omega arith)) in
-        by_names pairs_at pairs_by disks by ∙ ap (flat_map pairs_by) named ∙ by_outputs n g.replicas pairs_by (of_site 0) refl (λ s j. refl) (of_site 1) (λ r. refl) (λ j. refl) (λ j. refl)
+        by_names pairs_at pairs_by disks by ∙ ap (flat_map pairs_by) named ∙ by_outputs n g.config.replicas pairs_by (of_site 0) refl (λ s j. refl) (of_site 1) (λ r. refl) (λ j. refl) (λ j. refl)
         ∙ ap (λ (xs : List (List PairRec)). xs ++ values_from (of_site 1) 0 n) first ∙ ap (λ (xs : List (List PairRec)). values_from f (first_joiner g) n ++ xs) second
         ∙ values_both f (first_joiner g) n n ∙ ap (values_from f (first_joiner g)) (omega arith)
 
 -- ---- of a store that is read
 
-module _ (tells : Bool) (sure : IsTrue tells) (image : DiskName → List ℕ → Type 0) (g : Setting) (v : KeptValues) (kept : AreKept tells image g.replicas 0 v) (t : Topology) (topology_is : v.topology ≡ Some t)
+module _ (tells : Bool) (sure : IsTrue tells) (image : DiskName → List ℕ → Type 0) (g : Setting) (v : KeptValues) (kept : AreKept tells image g.config.replicas 0 v) (t : Topology) (topology_is : v.topology ≡ Some t)
     (is : IsAsked t g) where
-  pub many_are : joiners_kept v.topology 0 ≡ g.joiners
+  pub many_are : joiners_kept v.topology 0 ≡ g.config.joiners
   many_are = ap (λ (o : Option Topology). joiners_kept o 0) topology_is ∙ sym is.joiners
 
   abbrev pub its : Disks
   its = records_of g v.disks
 
-  pub named : map (λ d. d.name) v.disks ≡ other_names g.joiners g.replicas
-  named = kept.named ∙ ap (λ n. other_names n g.replicas) many_are
+  pub named : map (λ d. d.name) v.disks ≡ other_names g.config.joiners g.config.replicas
+  named = kept.named ∙ ap (λ n. other_names n g.config.replicas) many_are
 
   pub of : AreRecordsOf g v.disks its
-  of = are_records g v.disks (other_names g.joiners g.replicas) named (others_apart g.joiners g.replicas) (others_are g g.joiners (omega arith)) kept.kinds
+  of = are_records g v.disks (other_names g.config.joiners g.config.replicas) named (others_apart g.config.joiners g.config.replicas) (others_are g g.config.joiners (omega arith)) kept.kinds
 
   tells_of : (k : KeptStore) → IsOfValues v k → ReadTopologyIsKept → ReadNotesAreKept → OpenedIsWhole g image → TellsTheReport → Tells g image k.journals
   tells_of k told topology read whole report =
@@ -118,6 +118,6 @@ pub ok_read : (tells : Bool) (before : DiskName → List ℕ → Type 0) (replic
 ok_read tells before replicas log_tells log end_ v kept fine k told = record { values = v; kept = kept; told = told; fine = fine }
 
 pub read_tells : (tells : Bool) → IsTrue tells → (before : DiskName → List ℕ → Type 0) (replicas : ℕ) (log_tells : Bool) (log : List ℕ) (end_ : ℕ) → ReadTopologyIsKept → ReadNotesAreKept → ((g : Setting) → OpenedIsWhole g before) → TellsTheReport
-    → (k : KeptStore) → IsRead tells before replicas log_tells log end_ k → (t : Topology) (g : Setting) → k.topology ≡ Some t → IsAsked t g → g.replicas ≡ replicas → Tells g before k.journals
+    → (k : KeptStore) → IsRead tells before replicas log_tells log end_ k → (t : Topology) (g : Setting) → k.topology ≡ Some t → IsAsked t g → g.config.replicas ≡ replicas → Tells g before k.journals
 read_tells tells sure before replicas log_tells log end_ topology read whole report k is t g kept asked same =
     tells_of tells sure before g is.values (subst (λ n. AreKept tells before n 0 is.values) (sym same) is.kept) t (is.told.topology ∙ kept) asked k is.told topology read (whole g) report

@@ -12,23 +12,23 @@ use Rattle.site_store.proofs.SameNames.{same_or_not}
 use Rattle.site_store.proofs.Telling.{all_fit, first_clash, of_starts}
 use Rattle.site_store.proofs.Values.{at_name, find_name, named_mem, one_named}
 
-module _ (tells : Bool) (sure : IsTrue tells) (image : DiskName → List ℕ → Type 0) (asked : ℕ) (g : Setting) (k : KeptValues) (kept : AreKept tells image g.replicas asked k) where
+module _ (tells : Bool) (sure : IsTrue tells) (image : DiskName → List ℕ → Type 0) (asked : ℕ) (g : Setting) (k : KeptValues) (kept : AreKept tells image g.config.replicas asked k) where
   abbrev many : ℕ
   many = joiners_kept k.topology asked
 
   -- with as many joiners kept as the setting has, each of its disks was opened
-  pub something : many ≡ g.joiners → LeavesSomething g image
+  pub something : many ≡ g.config.joiners → LeavesSomething g image
   something same disk here = elim (same_or_not disk name.Topology) [
     | inl is ↦ let x = kept.topology sure in (x.0, subst (λ (n : DiskName). image n x.0) (sym is) x.1)
     | inr not ↦
-        let d = at_name k.disks disk (subst (Mem disk) (sym (kept.named ∙ ap (λ n. other_names n g.replicas) same)) (all_named g disk here not)) in
+        let d = at_name k.disks disk (subst (Mem disk) (sym (kept.named ∙ ap (λ n. other_names n g.config.replicas) same)) (all_named g disk here not)) in
         let x = each_mem (IsKept image) d.0 k.disks (kept.kept sure) d.1 in
         (x.0, subst (λ (n : DiskName). image n x.0) d.2 x.1)
   ]
 
   module _ (some : LeavesSomething g image) (sound : IsSoundStore g image) where
     no_topology : (d : KeptDisk) → Mem d k.disks → d.name ≢ name.Topology
-    no_topology d among = each_mem (λ (n : DiskName). n ≢ name.Topology) d.name _ (subst (Each (λ (n : DiskName). n ≢ name.Topology)) (sym kept.named) (not_topology many g.replicas)) (named_mem k.disks d among)
+    no_topology d among = each_mem (λ (n : DiskName). n ≢ name.Topology) d.name _ (subst (Each (λ (n : DiskName). n ≢ name.Topology)) (sym kept.named) (not_topology many g.config.replicas)) (named_mem k.disks d among)
 
     -- what the chosen bytes of a disk keep
     abbrev Was : DiskName → List ℕ → Type 0
@@ -42,7 +42,7 @@ module _ (tells : Bool) (sure : IsTrue tells) (image : DiskName → List ℕ →
       | inr not ↦ elim (find_name k.disks disk) [
         | inl found ↦
             let x = each_mem (IsKept image) found.0 k.disks (kept.kept sure) found.1 in
-            let apart : EachPair (λ one other. one ≢ other) (map (λ d. d.name) k.disks) = subst (EachPair (λ one other. one ≢ other)) (sym kept.named) (others_apart many g.replicas) in
+            let apart : EachPair (λ one other. one ≢ other) (map (λ d. d.name) k.disks) = subst (EachPair (λ one other. one ≢ other)) (sym kept.named) (others_apart many g.config.replicas) in
             (x.0, (subst (λ (n : DiskName). image n x.0) found.2 x.1, (λ d among named. subst (λ (o : KeptDisk). KeepsAs o.kept x.0) (one_named k.disks apart found.0 d found.1 among (found.2 ∙ sym named)) x.2, λ e. absurd (not e))))
         | inr none ↦ let x = some disk here in (x.0, (x.1, (λ d among named. absurd (none d among named), λ e. absurd (not e))))
       ]
@@ -81,10 +81,10 @@ module _ (tells : Bool) (sure : IsTrue tells) (image : DiskName → List ℕ →
     fits_at (name.Epoch s j) kd (v, is) here keeps = subst (λ (x : Kept). Each (Fits g.clicks) (places_at (name.Epoch s j) x)) (sym is) tt
     fits_at (name.Output s j) kd (v, is) here keeps = subst (λ (x : Kept). Each (Fits g.clicks) (places_at (name.Output s j) x)) (sym is) tt
 
-    pub are_disks : many ≤ g.joiners → (d : KeptDisk) → Mem d k.disks → IsDisk g d.name
+    pub are_disks : many ≤ g.config.joiners → (d : KeptDisk) → Mem d k.disks → IsDisk g d.name
     are_disks le d among = each_mem (IsDisk g) d.name _ (subst (Each (IsDisk g)) (sym kept.named) (others_are g many le)) (named_mem k.disks d among)
 
-    pub places_fit : many ≤ g.joiners → Each (Fits g.clicks) (all_kept k.disks)
+    pub places_fit : many ≤ g.config.joiners → Each (Fits g.clicks) (all_kept k.disks)
     places_fit le = all_fit g.clicks k.disks (λ d among.
         let here = are_disks le d among in
         fits_at d.name d.kept (each_mem (λ (o : KeptDisk). IsOfKind o.name o.kept) d k.disks kept.kinds among) here (held d among here))
@@ -96,7 +96,7 @@ module _ (tells : Bool) (sure : IsTrue tells) (log_tells : Bool) (log_sure : IsT
   -- where a setting's topology is asked
   module _ (asked : Topology) (is : IsAsked asked g) where
     abbrev AreIn : KeptValues → Type 0
-    AreIn k = AreKept tells image g.replicas asked.joiners k
+    AreIn k = AreKept tells image g.config.replicas asked.joiners k
 
     some_left : (k : KeptValues) → AreIn k → joiners_kept k.topology asked.joiners ≡ asked.joiners → LeavesSomething g image
     some_left k are same = something tells sure image asked.joiners g k are (same ∙ sym is.joiners)
@@ -111,7 +111,7 @@ module _ (tells : Bool) (sure : IsTrue tells) (log_tells : Bool) (log_sure : IsT
     no_joiners k kept wanted are (t, kept_is, old_is, new_is, other) some =
         other (ap (λ (u : PlainTopology). u.joiners) (topology_is tells sure image asked.joiners g k are some sound read fits t kept_is) ∙ is.joiners)
 
-    pub welcome : (f : RunFault) → IsCause tells image g.replicas faulted log_tells log end_ rose (Some asked) f → IsWelcome (LeavesSomething g image) f
+    pub welcome : (f : RunFault) → IsCause tells image g.config.replicas faulted log_tells log end_ rose (Some asked) f → IsWelcome (LeavesSomething g image) f
     welcome (fault.Damaged disk at) (first, was) = no_damage tells sure image asked.joiners read fits g (omega (arith, is.joiners)) sound disk at first was
     welcome (fault.Topology (mismatch.Joiners kept wanted)) (k, are, why) = no_joiners k kept wanted are why
     welcome (fault.Topology (mismatch.Table kept wanted)) (k, are, why) = no_table k kept wanted are why
@@ -122,7 +122,7 @@ module _ (tells : Bool) (sure : IsTrue tells) (log_tells : Bool) (log_sure : IsT
     welcome _ why = tt
 
   -- where nothing is asked
-  pub welcome_read : LeavesSomething g image → (f : RunFault) → IsCause tells image g.replicas faulted log_tells log end_ rose None f → IsWelcome (LeavesSomething g image) f
+  pub welcome_read : LeavesSomething g image → (f : RunFault) → IsCause tells image g.config.replicas faulted log_tells log end_ rose None f → IsWelcome (LeavesSomething g image) f
   welcome_read some (fault.Damaged disk at) (first, was) = no_damage tells sure image 0 read fits g (omega arith) sound disk at first was
   welcome_read some (fault.Topology (mismatch.Joiners kept wanted)) (k, are, why) = absurd why
   welcome_read some (fault.Topology (mismatch.Table kept wanted)) (k, are, why) = absurd why

@@ -80,9 +80,9 @@ pub record Leaves (before after : Images) (replicas : ℕ) (is_row : ShardRow �
   pub grown : (disk : DiskName) → GoesOn (before disk) (after disk)
   -- A sound store stays so, where the row was added for its setting with the row, and where it wasn't for its setting. Else each choice of
   -- what a stop leaves is sound for one of the two.
-  pub longer : sure → (row : ShardRow) → is_row row → (g : Setting) → g.replicas ≡ replicas → IsSoundStore g before → IsSoundStore (with_row g row) after
+  pub longer : sure → (row : ShardRow) → is_row row → (g : Setting) → g.config.replicas ≡ replicas → IsSoundStore g before → IsSoundStore (with_row g row) after
   pub still : none → (g : Setting) → IsSoundStore g before → IsSoundStore g after
-  pub either : (row : ShardRow) → is_row row → (g : Setting) → g.replicas ≡ replicas → IsSoundStore g before → IsSoundOr g (with_row g row) after
+  pub either : (row : ShardRow) → is_row row → (g : Setting) → g.config.replicas ≡ replicas → IsSoundStore g before → IsSoundOr g (with_row g row) after
 
 module _ (tells : Bool) (before : DiskName → List ℕ → Type 0) (replicas : ℕ) (row : ShardRow) where
   -- the disks kept values to which this is answered

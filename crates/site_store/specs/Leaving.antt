@@ -26,5 +26,5 @@ pub record StayOrAsked (asked : Topology) (before after : DiskName → List ℕ 
 
 -- the setting has the asked topology
 pub record IsAsked (asked : Topology) (g : Setting) : Type 0 where
-  pub joiners : g.joiners ≡ asked.joiners
-  pub table : g.table ≡ asked.table
+  pub joiners : g.config.joiners ≡ asked.joiners
+  pub table : g.config.table ≡ asked.table

@@ -19,7 +19,7 @@ pub record Tells (g : Setting) (image : DiskName → List ℕ → Type 0) (journ
   pub store : Store
   pub left : AreLeft g image store
   pub are : AreOf g store.disks journals
-  pub lines : map (λ (c : Click). line_of journals g.table c.id) (distinct (map (λ (l : ClickLine). l.click) g.clicks)) ≡ report g store.disks
+  pub lines : map (λ (c : Click). line_of journals g.config.table c.id) (distinct (map (λ (l : ClickLine). l.click) g.clicks)) ≡ report g store.disks
   pub whole : IsSoundStore g image → (used : Bool) × WholeSound g (record store { is_used = used })
 
 -- so many replicas without notes, and no outputs

@@ -1,7 +1,7 @@
 // Looks for the next line feed, over what was read ahead and the log behind it.
-ghost use Rattle.std.specs.Prelude.{◌≡◌, ◌≤◌, ◌<◌, ◌+◌, ◌*◌, ◌++◌, ◌∷◌, ◌⊎◌, [], List, ℕ, length, IfOk, IfSome, IfNone, OnErr, IsErr, IsTrue};
+ghost use Rattle.std.specs.Prelude.{◌≡◌, ◌≤◌, ◌<◌, ◌+◌, ◌*◌, ◌++◌, ◌∷◌, ◌⊎◌, [], List, ℕ, length, IfOk, IfSome, IfNone, is_err, OnErr, IsTrue};
 ghost use Rattle.list_words.specs.Bytes.{Lacks};
-ghost use Rattle.outside.specs.Faults.{Counts};
+ghost use Rattle.outside.specs.Faults.{tallied};
 ghost use Rattle.log_records.specs.Log.{line_feed};
 ghost use Rattle.tail_reader.specs.Buffered.{behind, Buffers};
 ghost use Rattle.tail_reader.specs.Next.{IsNext, end_of};
@@ -26,7 +26,7 @@ pub fn next_line<L: LogFile>(
     ensures ahead { IsTrue L.tells → IfOk result (λ next. Buffers (L.bytes log.old) (end_of next) window.new.1) }
     ensures err { IsTrue L.tells → OnErr result (Buffers (L.bytes log.old) place window.new.1) }
     ensures same { IsTrue L.tells → L.bytes log.new ≡ L.bytes log.old }
-    ensures count { Counts (L.faults log.old) (L.faults log.new) (IsErr result) }
+    ensures tally { L.faults log.new ≡ tallied (L.faults log.old) (is_err result) }
 {
     if place >= MAX_LOG {
         window.clear();
@@ -72,7 +72,7 @@ fn settle<L: LogFile>(
     ensures none { IsTrue L.tells → IfOk result (λ len. IfNone len (Lacks line_feed window.new.1)) }
     ensures end { IsTrue L.tells → IfOk result (λ len. IfNone len (length window.new.1 ≤ MAX_LINE → behind (L.bytes log.old) place ≡ window.new.1)) }
     ensures same { IsTrue L.tells → L.bytes log.new ≡ L.bytes log.old }
-    ensures count { Counts (L.faults log.old) (L.faults log.new) (IsErr result) }
+    ensures tally { L.faults log.new ≡ tallied (L.faults log.old) (is_err result) }
 {
     while window.len() <= MAX_LINE {
         if let Some(len) = line_len(window) {
@@ -96,7 +96,7 @@ fn skip<L: LogFile>(log: &mut L, from: u64, window: &mut Window) -> Result<Optio
     ensures cleared { IfOk result (λ end. IfNone end (window.new.1 ≡ [])) }
     ensures err { OnErr result (window.new.1 ≡ []) }
     ensures same { IsTrue L.tells → L.bytes log.new ≡ L.bytes log.old }
-    ensures count { Counts (L.faults log.old) (L.faults log.new) (IsErr result) }
+    ensures tally { L.faults log.new ≡ tallied (L.faults log.old) (is_err result) }
 {
     let mut at = from;
     window.clear();

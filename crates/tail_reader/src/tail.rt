@@ -27,8 +27,8 @@ pub struct Tail<L: LogFile> {
 }
 
 impl<L: LogFile> Tail<L> {
-    ghost use Rattle.std.specs.Prelude.{◌≡◌, IfOk, OnErr, IsErr, IsTrue};
-    ghost use Rattle.outside.specs.Faults.{Counts};
+    ghost use Rattle.std.specs.Prelude.{◌≡◌, is_err, IfOk, OnErr, IsTrue};
+    ghost use Rattle.outside.specs.Faults.{tallied};
     ghost use Rattle.tail_reader.specs.Next.{IsNext, end_of};
 
     /// Reads from this place on. It reads nothing yet.
@@ -86,7 +86,7 @@ impl<L: LogFile> Tail<L> {
         ensures place { IfOk result (λ next. self.new.place ≡ end_of next) }
         ensures err { OnErr result (self.new.place ≡ self.old.place) }
         ensures same { IsTrue L.tells → L.bytes self.new.log ≡ L.bytes self.old.log }
-        ensures count { Counts (L.faults self.old.log) (L.faults self.new.log) (IsErr result) }
+        ensures tally { L.faults self.new.log ≡ tallied (L.faults self.old.log) (is_err result) }
     {
         let next = next_line(&mut self.log, self.place, &mut self.window)?;
         self.place = next.end();

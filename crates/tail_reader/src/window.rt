@@ -1,6 +1,6 @@
 // What was read of a log and isn't used up.
-ghost use Rattle.std.specs.Prelude.{◌≡◌, ◌≤◌, ◌<◌, ◌+◌, ◌++◌, [], List, ℕ, length, take, drop, IfOk, OnErr, IsErr, IsTrue};
-ghost use Rattle.outside.specs.Faults.{Counts};
+ghost use Rattle.std.specs.Prelude.{◌≡◌, ◌≤◌, ◌<◌, ◌+◌, ◌++◌, [], List, ℕ, length, take, drop, is_err, IfOk, OnErr, IsTrue};
+ghost use Rattle.outside.specs.Faults.{tallied};
 ghost use Rattle.tail_reader.specs.Buffered.{behind};
 ghost use Rattle.log_records.specs.declared.lines.TheConstants.{MAX_LINE};
 ghost use Rattle.tail_reader.specs.declared.window.TheConstants.{SIZE};
@@ -99,7 +99,7 @@ impl Window {
         ensures end { IsTrue L.tells → IfOk result (λ n. n ≡ 0 → behind (L.bytes log.old) at ≡ []) }
         ensures err { OnErr result (self.new.1 ≡ self.old.1) }
         ensures same { IsTrue L.tells → L.bytes log.new ≡ L.bytes log.old }
-        ensures count { Counts (L.faults log.old) (L.faults log.new) (IsErr result) }
+        ensures tally { L.faults log.new ≡ tallied (L.faults log.old) (is_err result) }
     {
         let len = self.end - self.start;
         move_to_front(&mut self.bytes, self.start, len);
@@ -131,7 +131,7 @@ fn read_below<L: LogFile>(log: &mut L, at: u64, buf: &mut [u8]) -> Result<usize,
     ensures bytes { IsTrue L.tells → IfOk result (λ n. (n ≤ length (behind (L.bytes log.old) at)) × (take n buf.new ≡ take n (behind (L.bytes log.old) at))) }
     ensures end { IsTrue L.tells → IfOk result (λ n. n ≡ 0 → behind (L.bytes log.old) at ≡ []) }
     ensures same { IsTrue L.tells → L.bytes log.new ≡ L.bytes log.old }
-    ensures count { Counts (L.faults log.old) (L.faults log.new) (IsErr result) }
+    ensures tally { L.faults log.new ≡ tallied (L.faults log.old) (is_err result) }
 {
     if at >= MAX_LOG {
         return Ok(0);

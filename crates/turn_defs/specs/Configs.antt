@@ -1,19 +1,10 @@
--- The numbers of a run as its nodes have them.
-use Rattle.std.specs.Prelude.{◌≡◌, ◌<◌, ◌≤◌}
+-- The numbers that a run can be built for.
+use Rattle.std.specs.Prelude.{◌<◌, ◌≤◌}
 use Rattle.paxos_defs.specs.declared.TheConstants.{MOST_REPLICAS}
 use Rattle.registry_state.specs.declared.TheConstants.{MOST_INSERTS}
 use Rattle.time_shards.specs.Shards.{IsTable}
 use Rattle.time_shards.specs.declared.TheConstants.{MOST_JOINERS}
-use Rattle.turn_defs.specs.Setting.{Setting}
 use Rattle.turn_defs.specs.declared.config.Config.{Config}
-
--- the setting has these numbers
-pub record IsOf (config : Config) (g : Setting) : Type 0 where
-  pub horizon : g.horizon ≡ config.horizon
-  pub joiners : g.joiners ≡ config.joiners
-  pub table : g.table ≡ config.table
-  pub batch : g.batch ≡ config.batch
-  pub replicas : g.replicas ≡ config.replicas
 
 -- the ranges of what a run is built for
 pub record IsRunnable (config : Config) : Type 0 where

@@ -11,7 +11,7 @@ use Rattle.turn_defs.specs.declared.node.To.TheVariants.{Only, AnyJoiner}
 abbrev pub IsNode : Setting → Node → Type 0
 IsNode g (Dispatcher s) = s < 2
 IsNode g (Server s) = s < 2
-IsNode g (Replica r) = r < g.replicas
+IsNode g (Replica r) = r < g.config.replicas
 IsNode g (Joiner j) = IsJoiner g j
 
 -- the number of a node, which is what tokens and packets name it by
@@ -23,7 +23,7 @@ node_number (Joiner j) = j
 
 -- how many nodes there are; their numbers lie below this
 abbrev pub node_count : Setting → ℕ
-node_count g = first_joiner g + 2 * g.joiners
+node_count g = first_joiner g + 2 * g.config.joiners
 
 -- the node of a number
 abbrev pub node_of : Setting → ℕ → Option Node

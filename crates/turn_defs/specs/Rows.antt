@@ -20,11 +20,11 @@ one_line = record { place = 0; end_ = 36; click = one_click }
 
 -- one joiner a site, 7 and 8; four shards; three replicas
 abbrev pub worked : Setting
-worked = record { queries = one_query ∷ []; clicks = one_line ∷ []; horizon = 0; joiners = 1; table = (record { start = 0; count = 4 }) ∷ []; batch = 64; replicas = 3 }
+worked = record { queries = one_query ∷ []; clicks = one_line ∷ []; config = record { horizon = 0; joiners = 1; table = (record { start = 0; count = 4 }) ∷ []; batch = 64; replicas = 3 } }
 
 -- the same with a horizon behind the click
 abbrev pub worked_late : Setting
-worked_late = record worked { horizon = 2001 }
+worked_late = record worked { config = record worked.config { horizon = 2001 } }
 
 -- the tokens of joiner 7 in its first epoch, from 0
 abbrev pub token : ℕ → Token

@@ -81,7 +81,7 @@ is_free (Some p) = false
 
 -- the Own row applies to this shard
 abbrev pub may_propose : Setting → ShardState → Bool
-may_propose g st = (is_free st.proposal && not st.held) && ((not (is_empty st.queue) || nat_lt (bound_of st.learned) g.horizon) && is_below_limit (length st.learned))
+may_propose g st = (is_free st.proposal && not st.held) && ((not (is_empty st.queue) || nat_lt (bound_of st.learned) g.config.horizon) && is_below_limit (length st.learned))
 
 -- the first of so many numbers, from this one on, that passes the test
 abbrev pub first_shard : (ℕ → Bool) → ℕ → ℕ → Option ℕ
@@ -99,7 +99,7 @@ is_current g at b st p = is_next g at st && same_ballot p.ballot b
 module _ (g : Setting) (site : ℕ) where
   -- a Reply goes to the joiner that the token names, where that is one of this site
   abbrev pub is_own_joiner : ℕ → Bool
-  is_own_joiner n = (nat_le (first_joiner g) n && nat_lt n (first_joiner g + 2 * g.joiners)) && (site_of_joiner g n == site)
+  is_own_joiner n = (nat_le (first_joiner g) n && nat_lt n (first_joiner g + 2 * g.config.joiners)) && (site_of_joiner g n == site)
 
   abbrev pub reply : Insert → Answer → List (To × Packet)
   reply x a = if is_own_joiner x.token.joiner then (Only (Joiner x.token.joiner), Reply x a) ∷ [] else []
@@ -142,11 +142,11 @@ module _ (g : Setting) (site : ℕ) where
     proposes s st b =
         record {
           note = None;
-          packets = to_replicas g.replicas (Prepare (record { shard = s; slot = length st.learned }) b);
+          packets = to_replicas g.config.replicas (Prepare (record { shard = s; slot = length st.learned }) b);
           live =
               record {
                 round = suc l.round;
-                shards = set_at l.shards s (record st { proposal = Some (record { ballot = b; own = record { bound = g.horizon; inserts = take g.batch st.queue }; phase = Promising (nobody g.replicas) None }) });
+                shards = set_at l.shards s (record st { proposal = Some (record { ballot = b; own = record { bound = g.config.horizon; inserts = take g.config.batch st.queue }; phase = Promising (nobody g.config.replicas) None }) });
               };
         }
 
@@ -163,7 +163,7 @@ module _ (g : Setting) (site : ℕ) where
 
     abbrev pub accept_if : Place → Ballot → Option Batch → List (To × Packet)
     accept_if at b None = []
-    accept_if at b (Some v) = to_replicas g.replicas (Accept at b v)
+    accept_if at b (Some v) = to_replicas g.config.replicas (Accept at b v)
 
     abbrev pub promised : Place → ShardState → Proposal → Phase Batch × Option Batch → Out ServerLive
     promised at st p turn = record { note = None; packets = accept_if at p.ballot turn.1; live = goes_on at.shard st p turn.0 }
@@ -202,8 +202,8 @@ module _ (g : Setting) (site : ℕ) where
 
     -- the packets of a proposal's phase
     abbrev pub of_phase : Place → Ballot → Phase Batch → List (To × Packet)
-    of_phase at b (Promising marks best) = to_replicas g.replicas (Prepare at b)
-    of_phase at b (Accepting v marks) = to_replicas g.replicas (Accept at b v)
+    of_phase at b (Promising marks best) = to_replicas g.config.replicas (Prepare at b)
+    of_phase at b (Accepting v marks) = to_replicas g.config.replicas (Accept at b v)
     of_phase at b Ended = []
 
     abbrev pub again : ℕ → ShardState → Option Proposal → List (To × Packet)
@@ -245,7 +245,7 @@ module _ (g : Setting) where
   server_wants l = is_below_limit l.round && is_some (first_shard (λ s. may_propose g (l.shards s)) 0 (shards g))
 
   abbrev pub shard_unfinished : ShardState → Bool
-  shard_unfinished st = (not (is_free st.proposal) || st.held) || (not (is_empty st.queue) || nat_lt (bound_of st.learned) g.horizon)
+  shard_unfinished st = (not (is_free st.proposal) || st.held) || (not (is_empty st.queue) || nat_lt (bound_of st.learned) g.config.horizon)
 
   -- a shard has something that waits, so it takes a Tick
   abbrev pub server_unfinished : ServerLive → Bool
@@ -253,4 +253,4 @@ module _ (g : Setting) where
 
   -- it knows in each shard a bound not below the horizon
   abbrev pub server_at_rest : ServerLive → Bool
-  server_at_rest l = is_none (first_shard (λ s. nat_lt (bound_of (l.shards s).learned) g.horizon) 0 (shards g))
+  server_at_rest l = is_none (first_shard (λ s. nat_lt (bound_of (l.shards s).learned) g.config.horizon) 0 (shards g))

@@ -1,41 +1,36 @@
 -- What is fixed for a run: the logs, the horizon, the topology.
 use Rattle.std.specs.Prelude.{◌≡◌, ℕ, ◌+◌, ◌*◌, ◌<◌, ◌≤◌, nat_lt, List, if◌then◌else◌, Some}
 use Rattle.event_id.specs.declared.id.EventId.{EventId}
-use Rattle.time_shards.specs.declared.ShardRow.{ShardRow}
 use Rattle.time_shards.specs.Shards.{shard_of, shard_count}
 use Rattle.log_records.specs.declared.records.QueryRec.{QueryRec as Query}
 use Rattle.log_records.specs.declared.records.ClickRec.{ClickRec as Click}
 use Rattle.log_records.specs.Lines.{ClickLine, HoldsLines, IsPair, Follow, NoConflict}
 use Rattle.log_records.specs.Log.{first, HoldsQueries}
 use Rattle.list_words.specs.Lists.{Mem}
+use Rattle.turn_defs.specs.declared.config.Config.{Config}
 
--- the records of both logs, the horizon in microseconds, how many joiners a site has, the table of shards, the most
--- inserts of a batch, and how many replicas there are
+-- the records of both logs, and the numbers of the run
 pub record Setting : Type 0 where
   pub queries : List Query
   pub clicks : List ClickLine
-  pub horizon : ℕ
-  pub joiners : ℕ
-  pub table : List ShardRow
-  pub batch : ℕ
-  pub replicas : ℕ
+  pub config : Config
 
 -- Nodes are numbered: two dispatchers, two servers, the replicas, the joiners of site 0, then those of site 1.
 abbrev pub first_joiner : Setting → ℕ
-first_joiner g = 4 + g.replicas
+first_joiner g = 4 + g.config.replicas
 
 abbrev pub IsJoiner : Setting → ℕ → Type 0
-IsJoiner g n = (first_joiner g ≤ n) × (n < first_joiner g + 2 * g.joiners)
+IsJoiner g n = (first_joiner g ≤ n) × (n < first_joiner g + 2 * g.config.joiners)
 
 abbrev pub site_of_joiner : Setting → ℕ → ℕ
-site_of_joiner g n = if nat_lt n (first_joiner g + g.joiners) then 0 else 1
+site_of_joiner g n = if nat_lt n (first_joiner g + g.config.joiners) then 0 else 1
 
 -- the shards are the numbers below this
 abbrev pub shards : Setting → ℕ
-shards g = shard_count g.table
+shards g = shard_count g.config.table
 
 abbrev pub shard : Setting → EventId → ℕ
-shard g i = shard_of g.table i
+shard g i = shard_of g.config.table i
 
 -- (c, q) is the pair of c's id
 abbrev pub IsJoin : Setting → Click → Query → Type 0

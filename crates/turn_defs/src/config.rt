@@ -20,11 +20,10 @@ impl Config {
     ghost use Rattle.std.specs.Prelude.{◌≡◌};
     ghost use Rattle.turn_defs.specs.Setting.{Setting};
     ghost use Rattle.turn_defs.specs.Nodes.{node_of};
-    ghost use Rattle.turn_defs.specs.Configs.{IsOf};
 
     /// The node of a number, in constant time.
     pub fn node(self, number: u16) -> Option<Node>
-        ensures { (g : Setting) → IsOf self g → result ≡ node_of g number }
+        ensures { (g : Setting) → g.config ≡ self → result ≡ node_of g number }
     {
         let first_joiner = 4 + u16::from(self.replicas);
         let end = first_joiner + 2 * u16::from(self.joiners);

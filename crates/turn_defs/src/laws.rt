@@ -13,7 +13,7 @@ pub fn node_numbers()
 
 /// Each id's shard is one of the table's.
 pub fn shards_below()
-    ensures { (g : Setting) (id : EventId) → IsTable g.table → shard g id < shards g }
+    ensures { (g : Setting) (id : EventId) → IsTable g.config.table → shard g id < shards g }
 {}
 
 /// The setting of the worked turns is over two logs of one line each.

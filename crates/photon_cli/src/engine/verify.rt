@@ -105,7 +105,7 @@ fn kept_store<F: Source, S: Store>(
     ensures cause { IfErr result IsOfRun }
     ensures caused { IsTrue S.Disk.tells → IsTrue F.Log.tells → (g : Setting) → IsOverLog (F.bytes files.old) clicks.now g → end ≡ end_from 0 g.clicks → IfErr result (HasCauseInVerify g (S.image store.old) (Rose (F.faults files.old) (F.faults files.new)) (Rose (S.faults store.old) (S.faults store.new))) }
     ensures passed { IsTrue S.Disk.tells → IsTrue F.Log.tells → (g : Setting) → IsOverLog (F.bytes files.old) clicks.now g → end ≡ end_from 0 g.clicks → OnOk result (CanBeRead g (S.image store.old)) }
-    ensures welcome { IsTrue S.Disk.tells → IsTrue F.Log.tells → (g : Setting) → IsOverLog (F.bytes files.old) clicks.now g → end ≡ end_from 0 g.clicks → g.replicas ≡ REPLICAS → LeavesSomething g (S.image store.old) → IsSoundStore g (S.image store.old) → IfErr result (IsWelcome ⊤) }
+    ensures welcome { IsTrue S.Disk.tells → IsTrue F.Log.tells → (g : Setting) → IsOverLog (F.bytes files.old) clicks.now g → end ≡ end_from 0 g.clicks → g.config.replicas ≡ REPLICAS → LeavesSomething g (S.image store.old) → IsSoundStore g (S.image store.old) → IfErr result (IsWelcome ⊤) }
     ensures log_count { Counts (F.faults files.old) (F.faults files.new) (IsErrAnd result IsFailedRead) }
     ensures count { Counts (S.faults store.old) (S.faults store.new) ((place : Place) × (result ≡ Err (fault.Store place))) }
 {
@@ -146,7 +146,7 @@ pub fn verify_store<F: Source, S: Store, K: Sink>(
     ensures sound { IsTrue S.Disk.tells → (g : Setting) → IsSoundStore g (S.image store.old) → IsSoundStore g (S.image store.new) }
     ensures caused { IsTrue S.Disk.tells → IsTrue F.Log.tells → (g : Setting) → IsOverLog (F.bytes files.old) clicks.now g → IfErr result (HasCauseInVerify g (S.image store.old) (Rose (F.faults files.old) (F.faults files.new)) (Rose (S.faults store.old) (S.faults store.new))) }
     ensures passed { IsTrue S.Disk.tells → IsTrue F.Log.tells → (g : Setting) → IsOverLog (F.bytes files.old) clicks.now g → OnOk result (CanBeRead g (S.image store.old)) }
-    ensures welcome { IsTrue S.Disk.tells → IsTrue F.Log.tells → (g : Setting) → IsOverLog (F.bytes files.old) clicks.now g → g.replicas ≡ REPLICAS → LeavesSomething g (S.image store.old) → IsSoundStore g (S.image store.old) → IfErr result (IsWelcome ⊤) }
+    ensures welcome { IsTrue S.Disk.tells → IsTrue F.Log.tells → (g : Setting) → IsOverLog (F.bytes files.old) clicks.now g → g.config.replicas ≡ REPLICAS → LeavesSomething g (S.image store.old) → IsSoundStore g (S.image store.old) → IfErr result (IsWelcome ⊤) }
     ensures read { Counts (F.faults files.old) (F.faults files.new) (IsErrAnd result IsFailedRead) }
     ensures write { Counts (K.faults out.old) (K.faults out.new) (result ≡ Err fault.Write) }
     ensures disks { Counts (S.faults store.old) (S.faults store.new) ((place : Place) × (result ≡ Err (fault.Store place))) }

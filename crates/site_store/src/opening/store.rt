@@ -54,10 +54,10 @@ pub fn open_store<S: Store, L: LogFile>(
     ensures places { IfOk result (λ d. S.places_left store.old + (1 + length d.disks.items) ≤ S.places_left store.new) }
 
     // Each record was kept by an image of its disk, and the topology or none by one of its own.
-    ensures were_left { IsTrue S.Disk.tells → IfOk result (λ d. (g : Setting) (records : Disks) → IsAsked asked g → g.replicas ≡ replicas → AreRecordsOf g (kept_all d.disks.items) records
+    ensures were_left { IsTrue S.Disk.tells → IfOk result (λ d. (g : Setting) (records : Disks) → IsAsked asked g → g.config.replicas ≡ replicas → AreRecordsOf g (kept_all d.disks.items) records
         → (t : Option StoreTopology) × AreLeft g (S.image store.old) (record { topology = t; disks = records; is_used = true })) }
     // Of a sound store, the records that they keep are a whole store, with the topology that was asked.
-    ensures whole { IsTrue S.Disk.tells → IfOk result (λ d. (g : Setting) (records : Disks) → IsAsked asked g → g.replicas ≡ replicas → IsSoundStore g (S.image store.old) → AreRecordsOf g (kept_all d.disks.items) records
+    ensures whole { IsTrue S.Disk.tells → IfOk result (λ d. (g : Setting) (records : Disks) → IsAsked asked g → g.config.replicas ≡ replicas → IsSoundStore g (S.image store.old) → AreRecordsOf g (kept_all d.disks.items) records
         → (used : Bool) × WholeSound g (record { topology = Some (topology_of g); disks = records; is_used = used })) }
 
     // After a refusal.
@@ -67,7 +67,7 @@ pub fn open_store<S: Store, L: LogFile>(
     ensures grown { IsTrue S.Disk.tells → OnErr result ((disk : DiskName) → GoesOn (S.image store.old disk) (S.image store.new disk)) }
     ensures cause { IfErr result (IsCause S.Disk.tells (S.image store.old) replicas (Rose (S.faults store.old) (S.faults store.new)) L.tells (L.bytes clicks.old) end (Rose (L.faults clicks.old) (L.faults clicks.new)) (Some asked)) }
     // Of a sound store nothing that it keeps is refused, and no disk is told as damaged.
-    ensures welcome { IsTrue S.Disk.tells → IsTrue L.tells → IfErr result (λ f. (g : Setting) → IsAsked asked g → g.replicas ≡ replicas → IsLogOf (L.bytes clicks.old) g → end ≡ end_from 0 g.clicks
+    ensures welcome { IsTrue S.Disk.tells → IsTrue L.tells → IfErr result (λ f. (g : Setting) → IsAsked asked g → g.config.replicas ≡ replicas → IsLogOf (L.bytes clicks.old) g → end ≡ end_from 0 g.clicks
         → IsSoundStore g (S.image store.old) → IsWelcome (LeavesSomething g (S.image store.old)) f) }
 
     ensures same { IsTrue L.tells → L.bytes clicks.new ≡ L.bytes clicks.old }

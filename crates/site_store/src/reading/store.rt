@@ -47,9 +47,9 @@ pub fn read_store<S: Store, L: LogFile>(
 ) -> Result<KeptStore, RunFault>
     ensures kept { IfOk result (IsRead S.Disk.tells (S.image store.old) replicas L.tells (L.bytes clicks.old) end) }
     // With the kept topology, and so many replicas: of records that the disks kept verification tells the report.
-    ensures report { IsTrue S.Disk.tells → IfOk result (λ k. (t : KeptTopology) (g : Setting) → k.topology ≡ Some t → IsAsked t g → g.replicas ≡ replicas → Tells g (S.image store.old) k.journals) }
+    ensures report { IsTrue S.Disk.tells → IfOk result (λ k. (t : KeptTopology) (g : Setting) → k.topology ≡ Some t → IsAsked t g → g.config.replicas ≡ replicas → Tells g (S.image store.old) k.journals) }
     // A sound store that keeps no topology keeps no records, if a stop leaves something of each of its disks.
-    ensures blank { IsTrue S.Disk.tells → IfOk result (λ k. (g : Setting) → k.topology ≡ None → g.replicas ≡ replicas → LeavesSomething g (S.image store.old) → IsSoundStore g (S.image store.old) → KeepsNothing replicas k.journals) }
+    ensures blank { IsTrue S.Disk.tells → IfOk result (λ k. (g : Setting) → k.topology ≡ None → g.config.replicas ≡ replicas → LeavesSomething g (S.image store.old) → IsSoundStore g (S.image store.old) → KeepsNothing replicas k.journals) }
 
     // All disks are back, and what may be left of each stands for what might have been left of it before.
     ensures stays { IsTrue S.Disk.tells → (disk : DiskName) → StaysAs (S.image store.old disk) (S.image store.new disk) }
@@ -59,7 +59,7 @@ pub fn read_store<S: Store, L: LogFile>(
     ensures cause { IfErr result (IsCause S.Disk.tells (S.image store.old) replicas (Rose (S.faults store.old) (S.faults store.new)) L.tells (L.bytes clicks.old) end (Rose (L.faults clicks.old) (L.faults clicks.new)) None) }
 
     // A sound store is refused neither for a place nor for a damaged disk, if a stop leaves something of each of its disks.
-    ensures welcome { IsTrue S.Disk.tells → IsTrue L.tells → (g : Setting) → IsLogOf (L.bytes clicks.old) g → end ≡ end_from 0 g.clicks → g.replicas ≡ replicas → LeavesSomething g (S.image store.old) → IsSoundStore g (S.image store.old)
+    ensures welcome { IsTrue S.Disk.tells → IsTrue L.tells → (g : Setting) → IsLogOf (L.bytes clicks.old) g → end ≡ end_from 0 g.clicks → g.config.replicas ≡ replicas → LeavesSomething g (S.image store.old) → IsSoundStore g (S.image store.old)
         → IfErr result (IsWelcome (LeavesSomething g (S.image store.old))) }
 
     ensures same { IsTrue L.tells → L.bytes clicks.new ≡ L.bytes clicks.old }

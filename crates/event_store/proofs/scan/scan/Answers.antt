@@ -20,7 +20,7 @@ returns-then-eq-clause-found g c = λ t front lines walk none all.
 pub lines-preserved : goal.lines-preserved
 lines-preserved g c = record {
   same = λ t. c.in_ok-next_id.ensures.same t ∙ c.lines.invariant.same t;
-  count = omega (arith, c.lines.invariant.count, c.in_ok-next_id.ensures.count.later);
+  no_fault = c.in_ok-next_id.ensures.tally ∙ c.lines.invariant.no_fault;
   lacking = λ t front lines walk none all.
       let log : List ℕ = g.L.LogFile.bytes c.args.tail.now.log in
       let told : Option EventId = c.in_ok-next_id.field-0 in

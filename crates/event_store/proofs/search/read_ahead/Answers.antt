@@ -9,7 +9,7 @@ use Rattle.event_store.proofs.search.read_ahead.Goals.{in-Some, in_default}
 pub lines-preserved : goal.lines-preserved
 lines-preserved g c = record {
   same = λ t. c.in_ok-id.ensures.same t ∙ c.lines.invariant.same t;
-  count = omega (arith, c.lines.invariant.count, c.in_ok-id.ensures.count.later);
+  no_fault = c.in_ok-id.ensures.tally ∙ c.lines.invariant.no_fault;
   cached = λ t front lines marks walk knows cache.
       let had = c.lines.invariant.cached t front lines marks walk knows cache in
       let line = kept (g.L.LogFile.bytes c.args.tail.now.log) c.args.end c.args.index.now lines marks knows c.lines.tail.place c.next_id.new.tail.place had.0.0 c.in_ok-id.field-0 had.0.1 (omega (arith, c.place-place.ensures, c.if-place-end.false)) (λ next read step. c.in_ok-id.ensures.line t next read (subst (λ (log : List ℕ). ReadsNext log c.lines.tail.place next read) (sym (c.lines.invariant.same t)) step)) in (

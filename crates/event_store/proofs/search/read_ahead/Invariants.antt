@@ -1,4 +1,4 @@
-use Rattle.std.proofs.Common.{◌≡◌, ◌≤◌, List, Option, IsTrue}
+use Rattle.std.proofs.Common.{◌≡◌, List, Option, IsTrue}
 use Rattle.event_store.proofs.Words.{Query, AreRead, Mark, Knows, IsCache, at_hand}
 use Rattle.event_store.proofs.search.read_ahead.Given as goal
 
@@ -6,6 +6,6 @@ use Rattle.event_store.proofs.search.read_ahead.Given as goal
 abbrev pub invariant-lines : goal.invariant-lines
 invariant-lines g l = record {
   same : IsTrue g.L.LogFile.tells → g.L.LogFile.bytes l.tail.log ≡ g.L.LogFile.bytes l.fn.tail.log;
-  count : g.L.LogFile.faults l.fn.tail.log ≤ g.L.LogFile.faults l.tail.log;
+  no_fault : g.L.LogFile.faults l.tail.log ≡ g.L.LogFile.faults l.fn.tail.log;
   cached : IsTrue g.L.LogFile.tells → (front lines : List (Option Query)) (marks : List Mark) → AreRead (g.L.LogFile.bytes l.fn.tail.log) l.start front → Knows (g.L.LogFile.bytes l.fn.tail.log) l.end l.index lines marks → IsCache (at_hand l.fn.recent) marks → ((now : List (Option Query)) × AreRead (g.L.LogFile.bytes l.fn.tail.log) l.tail.place now) × IsCache (at_hand l.recent) marks;
 }

@@ -28,7 +28,7 @@ start : (g : Over) (c : After-build g) → IsTrue g.F.Log.LogFile.tells → (gg 
 start g c log_tells gg is =
     let disks = c.in-Ok.opened.disks.items in
     let o = c.in-Ok.ensures in
-    let records = records_so disks _ _ o.named gg is.logs.numbers.replicas is.logs.numbers.joiners o.kept.1.kinds in
+    let records = records_so disks _ _ o.named gg (ap (λ k. k.replicas) is.logs.numbers) (ap (λ k. k.joiners) is.logs.numbers) o.kept.1.kinds in
     let first = last_of (λ l. IsLogOf (g.F.Log.LogFile.bytes l) gg) c.args.logs.clicks.items c.take_last-read.new.logs.items c.take_last-read.result c.take_last-read.ensures.items is.logs.clicks_are in
     record {
       logs = over_back g.F.Log.LogFile.bytes c.args.config.now gg c.args.logs.clicks.items c.take_last-read.new.logs.items c.push_reserved-2.new.self.items c.args.logs.queries.items c.take_last-read.result c.open_store.new.clicks c.take_last-read.ensures.items c.push_reserved-2.ensures.items
@@ -75,7 +75,7 @@ returns-clause-over g c tells log_tells gg checked is =
     let inside = g.S.Store.image c.open_store.new.store in
     let after = g.S.Store.image c.run_system.new.store in
     let asked_of : Topology = record { joiners = c.args.config.now.joiners; table = c.args.config.now.table } in
-    let asked : IsAsked asked_of gg = record { joiners = is.logs.numbers.joiners; table = is.logs.numbers.table } in
+    let asked : IsAsked asked_of gg = record { joiners = ap (λ k. k.joiners) is.logs.numbers; table = ap (λ k. k.table) is.logs.numbers } in
     let topology = topology_lent {D = g.row.S-Disk.Denot} d.topology.journal.disk in
     let others = lent_all {D = g.row.S-Disk.Denot} d.disks.items in
     let all_kept = kept_all {D = g.row.S-Disk.Denot} d.disks.items in
@@ -84,7 +84,7 @@ returns-clause-over g c tells log_tells gg checked is =
     let first = first_log g (goal.at.returns-clause-over g c).After-open_store gg is in
     let out = out_so asked_of image before inside topology others (o.lent tells) in
     let apart = all_apart d.disks.items _ _ o.named in
-    let were = o.were_left tells gg built asked is.logs.numbers.replicas begun.records in
+    let were = o.were_left tells gg built asked (ap (λ k. k.replicas) is.logs.numbers) begun.records in
     let were_kept : Store = record { topology = were.0; disks = built; is_used = true } in
     let from_there = Rose (g.S.Store.faults c.open_store.new.store) (g.S.Store.faults c.run_system.new.store) in
     let logs_rose = Rose (g.F.Source.faults c.args.files.now) (g.F.Source.faults c.run_system.new.files) in
@@ -98,19 +98,19 @@ returns-clause-over g c tells log_tells gg checked is =
     let idle : c.run_system.new.ran.log ≡ None → (disk : DiskName) (b : List ℕ) → after disk b → MayBeLeft image inside (topology ∷ others) disk b
     = λ none disk b now. may_behind image inside topology others _ c.in-Ok-build.ensures.held disk b (may_same image inside _ _ _ disk b same (run.idle tells none disk b now)) in
     let whole : IfErr c.run_system.result (IsOfRun gg built from_there c.run_system.new.ran.log) = run.whole tells node_tells gg built is.logs.numbers held c.all_met.ensures down keeps in
-    let named = names_kept d.disks.items ∙ o.named ∙ ap (λ n. other_names n c.args.config.now.replicas) (sym is.logs.numbers.joiners) ∙ ap (other_names gg.joiners) (sym is.logs.numbers.replicas) in
+    let named = names_kept d.disks.items ∙ o.named ∙ ap (λ n. other_names n c.args.config.now.replicas) (sym (ap (λ k. k.joiners) is.logs.numbers)) ∙ ap (other_names gg.config.joiners) (sym (ap (λ k. k.replicas) is.logs.numbers)) in
     record {
       ends = record {
         keeps = record {
           sound = λ sound.
-              let sure = o.whole tells gg built asked is.logs.numbers.replicas sound begun.records in
+              let sure = o.whole tells gg built asked (ap (λ k. k.replicas) is.logs.numbers) sound begun.records in
               run_sound c.run_system.new.ran.log gg after (record { topology = Some (topology_of gg); disks = built; is_used = sure.0 }) checked sure.1 refl (c.run.ensures gg c.run_system.new.store)
               (λ none. still_sound asked_of image before inside topology others (o.lent tells) refl apart after (idle none) gg asked (c.topology_first.ensures gg c.args.store.now c.run_system.new.store) sound)
               (run.left tells node_tells gg built built is.logs.numbers held down (λ n among. refl) keeps);
           grown = λ disk. run.grown tells node_tells gg built c.args.store.now is.logs.numbers held down (out_same image before inside _ _ _ (sym same) (moved_out image before inside topology others _ c.in-Ok-build.ensures.held out)) disk;
         };
         idle = λ none disk other. other_stays asked_of image before inside topology others (o.lent tells) refl apart after (idle none) disk other;
-        passed = on_ok_of c.run_system.result (passed_so gg before asked_of asked _ is.logs.numbers.replicas g.S.Disk.Disk.tells g.F.Log.LogFile.tells tells log_tells (g.F.Log.LogFile.bytes c.take_last-read.result) c.args.end first is.ends (values_of {D = g.row.S-Disk.Denot} o.kept.0 d.disks.items) o.kept.1 o.kept.2);
+        passed = on_ok_of c.run_system.result (passed_so gg before asked_of asked _ (ap (λ k. k.replicas) is.logs.numbers) g.S.Disk.Disk.tells g.F.Log.LogFile.tells tells log_tells (g.F.Log.LogFile.bytes c.take_last-read.result) c.args.end first is.ends (values_of {D = g.row.S-Disk.Denot} o.kept.0 d.disks.items) o.kept.1 o.kept.2);
         caused = err_both (IsCounted logs_rose from_there) (IsOfRun gg built from_there c.run_system.new.ran.log) (IsCauseOf gg before logs_rose disks_rose) c.run_system.result (run.cause c.all_met.ensures) whole
             (λ f from of. cause_so gg before all_kept o.kept.2.limits (o.kept.1.kept tells) built begun.records named c.run_system.new.ran.log logs_rose disks_rose from_there later f (counted_more f logs_rose from_there logs_rose disks_rose (λ rose. rose) later from) of);
         welcome = λ sound. IfErr-weaker c.run_system.result _ _ (λ f of. welcome_so gg built from_there _ c.run_system.new.ran.log f of) whole;
@@ -130,7 +130,7 @@ returns-in-Err-build-clause-over g c tells log_tells gg checked is =
     let inside = g.S.Store.image c.open_store.new.store in
     let after = g.S.Store.image c.give_parts.new.store in
     let asked_of : Topology = record { joiners = c.args.config.now.joiners; table = c.args.config.now.table } in
-    let asked : IsAsked asked_of gg = record { joiners = is.logs.numbers.joiners; table = is.logs.numbers.table } in
+    let asked : IsAsked asked_of gg = record { joiners = ap (λ k. k.joiners) is.logs.numbers; table = ap (λ k. k.table) is.logs.numbers } in
     let topology = topology_lent {D = g.row.S-Disk.Denot} d.topology.journal.disk in
     let others = lent_all {D = g.row.S-Disk.Denot} d.disks.items in
     let apart = all_apart d.disks.items _ _ o.named in
@@ -156,7 +156,7 @@ pub returns-in-Err-clause-over : goal.returns-in-Err-clause-over
 returns-in-Err-clause-over g c tells log_tells gg checked is =
     let e = c.in-Err.ensures in
     let asked_of : Topology = record { joiners = c.args.config.now.joiners; table = c.args.config.now.table } in
-    let asked : IsAsked asked_of gg = record { joiners = is.logs.numbers.joiners; table = is.logs.numbers.table } in
+    let asked : IsAsked asked_of gg = record { joiners = ap (λ k. k.joiners) is.logs.numbers; table = ap (λ k. k.table) is.logs.numbers } in
     let first = first_log g (goal.at.returns-in-Err-clause-over g c).After-open_store gg is in
     let before = g.S.Store.image c.args.store.now in
     let logs_rose = Rose (g.F.Source.faults c.args.files.now) (g.F.Source.faults c.shut_logs.new.files) in
@@ -166,10 +166,10 @@ returns-in-Err-clause-over g c tells log_tells gg checked is =
         keeps = record { sound = λ sound. e.sound tells gg asked sound; grown = λ disk. e.grown tells disk };
         idle = λ none. (e.left tells).others;
         passed = tt;
-        caused = refused_so gg before asked_of asked _ is.logs.numbers.replicas g.S.Disk.Disk.tells g.F.Log.LogFile.tells tells log_tells (g.F.Log.LogFile.bytes c.take_last-read.result) c.args.end first is.ends _ _ logs_rose disks_rose
+        caused = refused_so gg before asked_of asked _ (ap (λ k. k.replicas) is.logs.numbers) g.S.Disk.Disk.tells g.F.Log.LogFile.tells tells log_tells (g.F.Log.LogFile.bytes c.take_last-read.result) c.args.end first is.ends _ _ logs_rose disks_rose
             (λ rose. c.shut_logs.ensures.clicks c.open_store.new.clicks (subst (Mem c.open_store.new.clicks) (sym c.push_reserved.ensures.items) (mem_right c.open_store.new.clicks c.take_last-read.new.logs.items (c.open_store.new.clicks ∷ []) (inl refl))) (some_rose _ _ rose))
             (λ rose. rose) c.in-Err.fault e.cause;
-        welcome = λ sound. e.welcome tells log_tells gg asked is.logs.numbers.replicas first is.ends sound;
+        welcome = λ sound. e.welcome tells log_tells gg asked (ap (λ k. k.replicas) is.logs.numbers) first is.ends sound;
       };
       left = none_left (RunLeft gg before (g.S.Store.image c.open_store.new.store)) _ c.requires.none;
       rest = tt;

@@ -1,10 +1,9 @@
 use Rattle.std.specs.Prelude.{IsTrue}
 use Rattle.std.proofs.Common.{◌≡◌, ⊎_elim, ℕ, ◌<◌, List, ◌++◌, ◌∷◌, length, map, sym, ap, ◌∙◌, subst, arith}
-use Rattle.site_run.proofs.Words.{length-map, IfErr-weaker, Each, Mem, mem_right, Rose, KeepsPairs, Config, IsOf, Kind, Setting, Disks, count_of, kinds_of, node_count, MayBeLeft, KeepsNotes, made_by, stop_count, as_lent, all_from, AreDownOver, IsRunFrom, IsOfDisks, AreKeptIn, AreUp, lent_replicas, lent_outputs}
+use Rattle.site_run.proofs.Words.{length-map, IfErr-weaker, Each, Mem, mem_right, Rose, KeepsPairs, Config, Kind, Setting, Disks, count_of, kinds_of, node_count, MayBeLeft, KeepsNotes, made_by, stop_count, as_lent, all_from, AreDownOver, IsRunFrom, IsOfDisks, AreKeptIn, AreUp, lent_replicas, lent_outputs}
 use Rattle.site_run.proofs.Opened.{down_too}
 use Rattle.site_run.proofs.Standing.{have_grown, runs_from}
 use Rattle.site_run.proofs.Dead.{dead_replicas, kinds_count}
-use Rattle.site_run.proofs.Naming.{same_numbers}
 use Rattle.site_run.proofs.Outing.{given_goes_on}
 use Rattle.site_run.proofs.Running.{same_count, goes_on, has_run, rests, no_stops, fault_told, first_told, first_ended, disks_alone, read_back_of, at_rest, disks_counted, none_at}
 use Rattle.site_run.proofs.Settling.{in_front, ok_three}
@@ -16,12 +15,12 @@ use Rattle.site_run.proofs.system.run_system.Goals as goal
 use Rattle.site_run.proofs.system.run_system.Goals.{After-settle}
 
 -- there are as many nodes as the setting has, and these are their kinds
-module _ (g : Setting) (c : Config) (of : IsOf c g) where
+module _ (g : Setting) (c : Config) (of : g.config ≡ c) where
   counted : (n : ℕ) → n ≡ count_of c → n ≡ node_count g
-  counted n is = is ∙ sym (ap count_of (same_numbers g c of))
+  counted n is = is ∙ sym (ap count_of of)
 
-  its_kinds : (kinds : List Kind) → kinds ≡ kinds_of c.joiners c.replicas → kinds ≡ kinds_of g.joiners g.replicas
-  its_kinds kinds are = are ∙ sym (ap (λ k. kinds_of k.joiners k.replicas) (same_numbers g c of))
+  its_kinds : (kinds : List Kind) → kinds ≡ kinds_of c.joiners c.replicas → kinds ≡ kinds_of g.config.joiners g.config.replicas
+  its_kinds kinds are = are ∙ sym (ap (λ k. kinds_of k.joiners k.replicas) of)
 
 pub run-requires-clause-count : goal.run-requires-clause-count
 run-requires-clause-count g c κs within = c.requires.count ∙ sym (kinds_count c.args.config.now.joiners c.args.config.now.replicas c.args.kinds.now c.requires.kinds)
@@ -30,7 +29,7 @@ pub run-requires-clause-few : goal.run-requires-clause-few
 run-requires-clause-few g c κs within = omega (arith, kinds_count c.args.config.now.joiners c.args.config.now.replicas c.args.kinds.now c.requires.kinds, c.requires.ranges.few, c.requires.ranges.replicas)
 
 -- the history is a run of the whole system, from whatever records its nodes were opened over
-run_left : (g : Over) (c : After-settle g) → IsTrue g.N.SiteNode.tells → (gg : Setting) (d : Disks) → IsOf c.args.config.now gg → AreDownOver g.N.SystemNode.places gg d c.args.nodes.items
+run_left : (g : Over) (c : After-settle g) → IsTrue g.N.SiteNode.tells → (gg : Setting) (d : Disks) → gg.config ≡ c.args.config.now → AreDownOver g.N.SystemNode.places gg d c.args.nodes.items
     → IsRunFrom g.N.SystemNode.places gg d c.in-Ok.left.air.history c.in-Ok.left.nodes.items c.in-Ok.left.rest
 run_left g c tells gg d asked down =
     let n = g.N.SiteNode in
@@ -201,19 +200,18 @@ returns-in-Ok-clause-stops g c planned node_planned gg d s asked held down laws 
     let others = all_from (λ i w. disks_of c.args.config.now i w.0) 0 ws in
     let whole = c.part_all-parts.ensures.disks ∙ in_front c.args.parts.disks.items c.push_reserved.new.self.items c.args.topology others c.requires.empty.0 c.push_reserved.ensures.items in
     let plan = c.in-Ok.ensures.plan node_planned in
-    let same = same_numbers gg c.args.config.now asked in
     let numbers = c.node_numbers.ensures gg in
     let with_topology = λ (up : AreUp disk.is_down others). subst (AreUp disk.is_down) (sym whole) ((λ other. absurd (other named)), up) in
     record {
       stops = none_too_often disk.stops disk.made disk.faults disk.is_down n.stops_left n.faults n.waits disks_of laws c.args.config.now left nodes ws h all.1 plan
-          disk.image g.N.SystemNode.places n.grown held gg same numbers d count down c.in-Ok.ensures.count;
+          disk.image g.N.SystemNode.places n.grown held gg asked numbers d count down c.in-Ok.ensures.count;
       calm = λ none.
           let calm = all_calm disk.stops disk.made disk.faults disk.is_down n.stops_left n.faults n.waits disks_of laws c.args.config.now left nodes ws h all.1 plan c.in-Ok.ensures.count c.requires.up none in
           c.settle.ensures.calm planned (with_topology calm.0) (subst (Each (λ l. disk.faults l.disk ≡ 0)) (sym whole) (all.0.calm, calm.1));
       spared = λ are.
           let told = sym c.part_all-parts.ensures.fault in
           let rise = none_told disk.stops disk.made disk.faults disk.is_down n.stops_left n.faults n.waits disks_of laws c.args.config.now left nodes ws h all.1 plan
-          disk.image g.N.SystemNode.places n.grown held gg same numbers d count down c.in-Ok.ensures.count are.few c.in-Ok.ensures.met in
+          disk.image g.N.SystemNode.places n.grown held gg asked numbers d count down c.in-Ok.ensures.count are.few c.in-Ok.ensures.met in
           IfErr-weaker c.settle.result _ _
           (λ f told_too.
           ⊎_elim (λ is. rise f (told ∙ is))

@@ -4,9 +4,8 @@ use Rattle.tail_reader.proofs.scan.settle.Goals as goal
 
 pub loop-window-preserved : goal.loop-window-preserved
 loop-window-preserved g c =
-    let later = c.loop-window.invariant.later in
     record {
       ahead = λ t. rw (c.read_more.ensures.same t) (buffers_more (g.L.LogFile.bytes c.loop-window.log) c.args.place c.loop-window.window.1 c.read_more.new.self.1 _ c.in_ok-n.n (c.loop-window.invariant.ahead t) (c.in_ok-n.ensures.bytes t).0 (c.in_ok-n.ensures.bytes t).1 (omega arith));
       same = λ t. c.read_more.ensures.same t ∙ c.loop-window.invariant.same t;
-      later = omega (arith, c.read_more.ensures.count.later);
+      no_fault = c.in_ok-n.ensures.tally ∙ c.loop-window.invariant.no_fault;
     }

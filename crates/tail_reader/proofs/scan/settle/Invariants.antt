@@ -1,4 +1,4 @@
-use Rattle.std.proofs.Common.{suc, ◌≡◌, ◌≤◌, ◌-◌, length, IsTrue}
+use Rattle.std.proofs.Common.{suc, ◌≡◌, ◌-◌, length, IsTrue}
 use Rattle.log_records.specs.declared.lines.TheConstants.{MAX_LINE}
 use Rattle.tail_reader.specs.Buffered.{Buffers}
 use Rattle.tail_reader.proofs.scan.settle.Given as goal
@@ -9,7 +9,7 @@ invariant-loop-window g l =
     record {
       ahead : IsTrue g.L.LogFile.tells → Buffers (g.L.LogFile.bytes l.log) l.place l.window.1;
       same : IsTrue g.L.LogFile.tells → g.L.LogFile.bytes l.log ≡ g.L.LogFile.bytes l.fn.log;
-      later : g.L.LogFile.faults l.fn.log ≤ g.L.LogFile.faults l.log;
+      no_fault : g.L.LogFile.faults l.log ≡ g.L.LogFile.faults l.fn.log;
     }
 
 abbrev pub decreases-loop-window : goal.decreases-loop-window

@@ -18,7 +18,6 @@ returns-in-Some-clause-ahead g c = λ t.
 
 pub loop-at-preserved : goal.loop-at-preserved
 loop-at-preserved g c =
-    let later = c.loop-at.invariant.later in
     let small = c.in_ok-n.ensures.small in
     let len = c.in_ok-n.ensures.len in
     record {
@@ -31,7 +30,7 @@ loop-at-preserved g c =
       cleared = ap (λ (v : List ℕ × List ℕ). v.1) c.clear-in-loop-at.ensures;
       low = omega (arith, small);
       same = λ t. c.read_more.ensures.same t ∙ c.loop-at.invariant.same t;
-      later = omega (arith, c.read_more.ensures.count.later);
+      no_fault = c.in_ok-n.ensures.tally ∙ c.loop-at.invariant.no_fault;
     }
 
 pub returns-clause-none : goal.returns-clause-none

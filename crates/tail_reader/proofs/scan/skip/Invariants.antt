@@ -11,7 +11,7 @@ invariant-loop-at g l =
       cleared : l.window.1 ≡ [];
       low : l.at ≤ 2 * MAX_LOG;
       same : IsTrue g.L.LogFile.tells → g.L.LogFile.bytes l.log ≡ g.L.LogFile.bytes l.fn.log;
-      later : g.L.LogFile.faults l.fn.log ≤ g.L.LogFile.faults l.log;
+      no_fault : g.L.LogFile.faults l.log ≡ g.L.LogFile.faults l.fn.log;
     }
 
 abbrev pub decreases-loop-at : goal.decreases-loop-at

@@ -17,7 +17,7 @@ loop-position-preserved g c =
           let more = now.click tells s (take i ps) here (starts p (has_at ps i 0 c.loop-position-test.true)) (before.clicks tells s is starts) in
           subst (λ (qs : List ℕ). AreClicksAt s qs c.put_click.new.clicks.items) (sym (take_more ps i 0 c.loop-position-test.true)) more;
       spelled = now.spelled before.spelled;
-      count = omega (arith, before.count, now.count);
+      no_fault = now.tally ∙ before.no_fault;
     }
 
 pub returns-clause-clicks : goal.returns-clause-clicks

@@ -1,4 +1,4 @@
-use Rattle.std.proofs.Common.{◌≡◌, ◌≤◌, ℕ, true, take}
+use Rattle.std.proofs.Common.{◌≡◌, ℕ, true, take}
 use Rattle.std.specs.Prelude.{All, IsTrue}
 use Rattle.dispatch_node.proofs.Words.{has, IsClick, Setting, AreClicksAt, IsLogOf, StartsAt}
 use Rattle.dispatch_node.proofs.clicks.Clicks.clicks_at.Given as goal
@@ -10,5 +10,5 @@ invariant-loop-position g l =
       same : IsTrue g.L.LogFile.tells → g.L.LogFile.bytes l.self.tail.log ≡ g.L.LogFile.bytes l.initial.self.tail.log;
       clicks : IsTrue g.L.LogFile.tells → (s : Setting) → IsLogOf (g.L.LogFile.bytes l.initial.self.tail.log) s → ((p : ℕ) → has l.positions p ≡ true → StartsAt s p) → AreClicksAt s (take l.position-index l.positions) l.clicks.items;
       spelled : All IsClick l.clicks.items;
-      count : g.L.LogFile.faults l.initial.self.tail.log ≤ g.L.LogFile.faults l.self.tail.log;
+      no_fault : g.L.LogFile.faults l.self.tail.log ≡ g.L.LogFile.faults l.initial.self.tail.log;
     }

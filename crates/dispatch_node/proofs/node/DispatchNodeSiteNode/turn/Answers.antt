@@ -3,7 +3,7 @@ use Rattle.dispatch_node.proofs.Words.{none_of, on_err, turn_grown, continues_sa
 use Rattle.offset_journal.specs.Offsets as offsets
 use Rattle.retry_log.specs.Pending as pending
 use Rattle.dispatch_node.proofs.Standing.{live_or}
-use Rattle.dispatch_node.proofs.Turning.{config_is, decides, quiet, idles, ends, stays_open, doubted, row_moment, opened_is, decided_at, taken_at, images_at, part_at, some_of}
+use Rattle.dispatch_node.proofs.Turning.{decides, quiet, idles, ends, stays_open, doubted, row_moment, opened_is, decided_at, taken_at, images_at, part_at, some_of}
 use Rattle.site_node.specs.Faults.{was_stopped}
 use Rattle.site_node.proofs.Stops.{both_meet, one_by_one}
 use Rattle.dispatch_node.proofs.node.DispatchNodeSiteNode.turn.Goals as goal
@@ -11,7 +11,7 @@ use Rattle.dispatch_node.proofs.node.DispatchNodeSiteNode.turn.Goals as goal
 pub returns-in-None-clause-done : goal.returns-in-None-clause-done
 returns-in-None-clause-done g c tells s t at led sent le =
     let old = c.args.self.now in
-    let junk = rw c.in-None.is at (c.in_ok-read_input.ensures.junk s.node.setting (config_is _ _ _ s _ at c.config.ensures)) in
+    let junk = rw c.in-None.is at (c.in_ok-read_input.ensures.junk s.node.setting (at.setting ∙ sym c.config.ensures)) in
     idles _ _ _ s t old.site c.args.input.now c.new.result sent (none_of old.in_doubt c.requires.up) at led junk c.new.ensures le
 
 pub returns-in_ok-note-in-Some-clause-done : goal.returns-in_ok-note-in-Some-clause-done
@@ -19,7 +19,7 @@ returns-in_ok-note-in-Some-clause-done g c tells s t at led sent le =
     let old = c.args.self.now in
     let both = one_of g.D.Disk.tells g.L.LogFile.tells tells in
     let none = none_of old.in_doubt c.requires.up in
-    let reads = rw c.in-Some.is at (c.in_ok-read_input.ensures.reads s.node.setting (config_is _ _ _ s _ at c.config.ensures)) in
+    let reads = rw c.in-Some.is at (c.in_ok-read_input.ensures.reads s.node.setting (at.setting ∙ sym c.config.ensures)) in
     let e = c.in_ok-ready-in-Some.ensures in
     let ready = c.in_ok-ready-in-Some.ready in
     let d = decides _ _ _ s c.args.input.now c.in-Some.input c.prepare.new.self.core ready.turn ready.written none at led.leads.1 reads (e.turn both.1) e.ready.recorded in
@@ -41,7 +41,7 @@ returns-in_err-note-in-Some-clause-open g c tells s t at led =
     let old = c.args.self.now in
     let both = one_of g.D.Disk.tells g.L.LogFile.tells tells in
     let none = none_of old.in_doubt c.requires.up in
-    let reads = rw c.in-Some.is at (c.in_ok-read_input.ensures.reads s.node.setting (config_is _ _ _ s _ at c.config.ensures)) in
+    let reads = rw c.in-Some.is at (c.in_ok-read_input.ensures.reads s.node.setting (at.setting ∙ sym c.config.ensures)) in
     let e = c.in_ok-ready-in-Some.ensures in
     let ready = c.in_ok-ready-in-Some.ready in
     let d = decides _ _ _ s c.args.input.now c.in-Some.input c.prepare.new.self.core ready.turn ready.written none at led.leads.1 reads (e.turn both.1) e.ready.recorded in
@@ -65,7 +65,7 @@ returns-in_ok-note-in-Some-clause-moments g c tells s t at led bytes left =
     let old = c.args.self.now in
     let both = one_of g.D.Disk.tells g.L.LogFile.tells tells in
     let none = none_of old.in_doubt c.requires.up in
-    let reads = rw c.in-Some.is at (c.in_ok-read_input.ensures.reads s.node.setting (config_is _ _ _ s _ at c.config.ensures)) in
+    let reads = rw c.in-Some.is at (c.in_ok-read_input.ensures.reads s.node.setting (at.setting ∙ sym c.config.ensures)) in
     let e = c.in_ok-ready-in-Some.ensures in
     let w = c.in_ok-ready-in-Some.ready.written in
     let d = decides _ _ _ s c.args.input.now c.in-Some.input c.prepare.new.self.core c.in_ok-ready-in-Some.ready.turn w none at led.leads.1 reads (e.turn both.1) e.ready.recorded in
@@ -88,7 +88,7 @@ returns-in_err-note-in-Some-clause-moments g c tells s t at led bytes left =
     let old = c.args.self.now in
     let both = one_of g.D.Disk.tells g.L.LogFile.tells tells in
     let none = none_of old.in_doubt c.requires.up in
-    let reads = rw c.in-Some.is at (c.in_ok-read_input.ensures.reads s.node.setting (config_is _ _ _ s _ at c.config.ensures)) in
+    let reads = rw c.in-Some.is at (c.in_ok-read_input.ensures.reads s.node.setting (at.setting ∙ sym c.config.ensures)) in
     let e = c.in_ok-ready-in-Some.ensures in
     let w = c.in_ok-ready-in-Some.ready.written in
     let d = decides _ _ _ s c.args.input.now c.in-Some.input c.prepare.new.self.core c.in_ok-ready-in-Some.ready.turn w none at led.leads.1 reads (e.turn both.1) e.ready.recorded in

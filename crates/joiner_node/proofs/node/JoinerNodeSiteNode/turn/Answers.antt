@@ -5,7 +5,7 @@ use Rattle.joiner_node.specs.Disks.{with_note}
 use Rattle.joiner_node.specs.States.{keeps_open}
 use Rattle.std.proofs.lemmas.Result.{err_from_is_err_and}
 use Rattle.joiner_node.proofs.Spending.{spends, starts, spent_junk}
-use Rattle.joiner_node.proofs.Turning.{quiet, idles, ends, stays_open, all_five, both_err, both_tell, serves_of, serves_same, config_same, holds_within, next_of, led_to}
+use Rattle.joiner_node.proofs.Turning.{quiet, idles, ends, stays_open, all_five, both_err, both_tell, serves_of, serves_same, holds_within, next_of, led_to}
 use Rattle.gate_journal.proofs.Growth.{continues_same}
 use Rattle.site_node.proofs.Stops.{one_by_one, both_meet}
 use Rattle.site_node.proofs.Turns.{fits_of, none_of, turn_grown}
@@ -41,7 +41,7 @@ returns-after-is_some-clause-done g c tells s t at led =
     all_five c.finish.result _ _ _ _ _ _ (f.note row.note row.is_record) f.packets f.knows (f.holds told.0 k row.note row.is_record next holds) f.up
     (λ d note packets knows holds up sent le.
     let stands = knows set s.number (with_note row.note k) _ row.next in
-    ends p (g.D.Disk.image new.disks.epochs.journal.disk) (g.D.Disk.image new.disks.log.disk) mid.joining.core s t _ b i ready d.note d.packets sent led reads row note packets le up (config_same old.config new.config set (f.same.1 ∙ e.same.1) at.setting)
+    ends p (g.D.Disk.image new.disks.epochs.journal.disk) (g.D.Disk.image new.disks.log.disk) mid.joining.core s t _ b i ready d.note d.packets sent led reads row note packets le up (at.setting ∙ sym (f.same.1 ∙ e.same.1))
     (at.number_is ∙ sym (f.same.0 ∙ e.same.0)) (rw (← f.same.2) at (e.reads told.1 set.queries at.reads)) holds stands (serves_of new.joining.up new.joining.core set s.number (with_note row.note k) _ stands))
 
 pub returns-after-is_some-clause-open : goal.returns-after-is_some-clause-open
@@ -65,7 +65,7 @@ returns-after-is_some-clause-open g c tells s t at led =
     let p : Parts = record { number = new.number; config = new.config; core = new.joining.core; up = new.joining.up; log = g.L.LogFile.bytes new.joining.queries.store.tail.log; place = new.joining.queries.store.tail.place; in_doubt = new.disks.in_doubt; epoch = new.disks.epochs.value.epoch; written = new.disks.written } in
     both_err c.finish.result _ _ _ f.core (f.doubts k row.note row.is_record next holds.epoch_is holds.count_is)
     (λ same doubts.
-    stays_open p (g.D.Disk.image new.disks.epochs.journal.disk) (g.D.Disk.image new.disks.log.disk) s t _ b i row.note led reads row.is_note (config_same old.config new.config set (f.same.1 ∙ e.same.1) at.setting) (at.number_is ∙ sym (f.same.0 ∙ e.same.0))
+    stays_open p (g.D.Disk.image new.disks.epochs.journal.disk) (g.D.Disk.image new.disks.log.disk) s t _ b i row.note led reads row.is_note (at.setting ∙ sym (f.same.1 ∙ e.same.1)) (at.number_is ∙ sym (f.same.0 ∙ e.same.0))
     (rw (← same) at (serves_same old.joining.core mid.joining.core set s.number e.core at.serves)) (rw (← f.same.2) at (e.reads told.1 set.queries at.reads)) doubts
     (record { epochs_or = (f.epoch_moments told.0 k row.note row.is_record next holds).now; pairs_or = (f.pair_moments told.0 k row.note row.is_record next holds).now }))
 

@@ -1,4 +1,4 @@
-use Rattle.std.proofs.Common.{◌≤◌, List, IsTrue}
+use Rattle.std.proofs.Common.{◌≡◌, List, IsTrue}
 use Rattle.log_records.specs.declared.records.QueryRec.{QueryRec as Query}
 use Rattle.joiner_node.specs.Read.{HasRead}
 use Rattle.joiner_node.proofs.queries.Queries.look_up.Given as goal
@@ -7,5 +7,5 @@ use Rattle.joiner_node.proofs.queries.Queries.look_up.Given as goal
 abbrev pub invariant-lines : goal.invariant-lines
 invariant-lines g l = record {
   reads : IsTrue g.L.LogFile.tells → (qs : List Query) → HasRead (g.L.LogFile.bytes l.fn.self.store.tail.log) l.fn.self.store.tail.place qs → HasRead (g.L.LogFile.bytes l.self.store.tail.log) l.self.store.tail.place qs;
-  later : g.L.LogFile.faults l.fn.self.store.tail.log ≤ g.L.LogFile.faults l.self.store.tail.log;
+  no_fault : g.L.LogFile.faults l.self.store.tail.log ≡ g.L.LogFile.faults l.fn.self.store.tail.log;
 }

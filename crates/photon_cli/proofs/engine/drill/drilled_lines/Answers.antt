@@ -1,5 +1,5 @@
 use Rattle.std.specs.Prelude.{IsTrue, ⊤}
-use Rattle.std.proofs.Common.{List, [], ℕ, Option, inl, inr, refl, sym, subst}
+use Rattle.std.proofs.Common.{List, [], ℕ, Option, inl, inr, refl, sym, ap, subst}
 use Rattle.photon_cli.proofs.Words.{AreValid, Clicks, Config, IfSome, IsAsked, IsHeardOf, IsOfDrill, IsSettingOf, Setting, SparesNodes, StopsAtMost, all_earlier, config_of, counted_more, names_of, same_left, stops_earlier, values_in}
 use Rattle.photon_cli.proofs.Drilling.{drilled, never_soon, of_drill}
 use Rattle.photon_cli.proofs.Statuses.{of_log}
@@ -50,10 +50,10 @@ returns-in-Ok-classify-clause-done g c logs =
     let s = setting_of v c.args.table x.0 x.1 in
     let asked = is_asked told v c.args.table x.0 x.1 c.requires.table x.2 in
     let is = of_run g r logs s asked in
-    let ran = ran_afresh s _ _ _ _ _ _ (c.in-Ok-run_sites.ensures.over refl logs s is) _ is.clicks_are _ (sym is.numbers.table) _ (placed_ids c.in-Ok.clicks.ids.items x.1 x.3) _ c.in-Ok-classify.ensures (c.means.ensures.ran s c.in-Ok-store_for.store c.run_sites.new.store) asked.table.0 (λ disk is. (store.images disk).0) in (
+    let ran = ran_afresh s _ _ _ _ _ _ (c.in-Ok-run_sites.ensures.over refl logs s is) _ is.clicks_are _ (sym (ap (λ k. k.table) is.numbers)) _ (placed_ids c.in-Ok.clicks.ids.items x.1 x.3) _ c.in-Ok-classify.ensures (c.means.ensures.ran s c.in-Ok-store_for.store c.run_sites.new.store) asked.table.0 (λ disk is. (store.images disk).0) in (
       s,
       asked,
-      drilled c.run_sites.new.ran.log s plan v.nodes.joiners c.in-Ok-classify.lines.items asked.setting.numbers.joiners ran (heard g r)
+      drilled c.run_sites.new.ran.log s plan v.nodes.joiners c.in-Ok-classify.lines.items (ap (λ k. k.joiners) asked.setting.numbers) ran (heard g r)
           (stops_earlier c.run_sites.new.ran.log (StopsAtMost v.nodes.joiners plan.stops) _ s (λ disk k. same_left k _ _ 0 _ (store.calls disk) (store.made disk)) (c.run_sites.ensures.stops refl logs s is).stops),
     )
 

@@ -30,7 +30,7 @@ begun g c =
 
 left_of : (g : Over) (c : After-run_sites g) → IsTrue g.S.Disk.Disk.tells → IsTrue g.F.Log.LogFile.tells → (s : Setting) → IsAsked (g.F.Source.bytes c.args.files.now) (values_in c.args.wanted.now) s
     → IfSome c.run_sites.new.ran.log (IsHistory s (g.S.Store.image c.args.store.now) (g.S.Store.image c.run_sites.new.store) no_plan)
-left_of g c disks logs s asked = if_history c.run_sites.new.ran.log s _ _ no_plan _ asked.setting.numbers.joiners (c.run_sites.ensures.over disks logs s (of_run g c logs s asked)).left (begun g c).2
+left_of g c disks logs s asked = if_history c.run_sites.new.ran.log s _ _ no_plan _ (ap (λ k. k.joiners) asked.setting.numbers) (c.run_sites.ensures.over disks logs s (of_run g c logs s asked)).left (begun g c).2
 
 -- the logs' faults were counted from before they were checked
 rose : (g : Over) (c : After-run_sites g) → Rose (g.F.Source.faults c.checked_logs.new.files) (g.F.Source.faults c.run_sites.new.files) → Rose (g.F.Source.faults c.args.files.now) (g.F.Source.faults c.run_sites.new.files)
@@ -79,7 +79,7 @@ returns-in-Ok-write_report-clause-done g c logs sinks disks =
     let x = read_setting g r logs in
     let is = of_run g r logs x.0 x.1 in
     let written = c.in-Ok-write_report.ensures.all sinks ∙ ap (λ (ls : List ReportLine). g.K.Sink.held c.args.out.now ++ text_of ls) c.deref.ensures.value in
-    (x.0, x.1, λ was. (c.in-Ok-classify.lines.items, joined x.0 _ _ _ _ _ _ (c.in-Ok-run_sites.ensures.over disks logs x.0 is) _ is.clicks_are _ (sym is.numbers.table) _ x.2 _ c.in-Ok-classify.ensures (c.means.ensures.joins x.0 c.args.store.now c.run_sites.new.store) was, written))
+    (x.0, x.1, λ was. (c.in-Ok-classify.lines.items, joined x.0 _ _ _ _ _ _ (c.in-Ok-run_sites.ensures.over disks logs x.0 is) _ is.clicks_are _ (sym (ap (λ k. k.table) is.numbers)) _ x.2 _ c.in-Ok-classify.ensures (c.means.ensures.joins x.0 c.args.store.now c.run_sites.new.store) was, written))
 
 pub returns-in-Ok-write_report-clause-afresh : goal.returns-in-Ok-write_report-clause-afresh
 returns-in-Ok-write_report-clause-afresh g c logs sinks disks =
@@ -87,13 +87,13 @@ returns-in-Ok-write_report-clause-afresh g c logs sinks disks =
     let x = read_setting g r logs in
     let is = of_run g r logs x.0 x.1 in
     let written = c.in-Ok-write_report.ensures.all sinks ∙ ap (λ (ls : List ReportLine). g.K.Sink.held c.args.out.now ++ text_of ls) c.deref.ensures.value in
-    (x.0, x.1, λ was. (c.in-Ok-classify.lines.items, joined_afresh x.0 _ _ _ _ _ _ (c.in-Ok-run_sites.ensures.over disks logs x.0 is) _ is.clicks_are _ (sym is.numbers.table) _ x.2 _ c.in-Ok-classify.ensures (c.means.ensures.afresh x.0 c.args.store.now c.run_sites.new.store) x.1.table.0 was, written))
+    (x.0, x.1, λ was. (c.in-Ok-classify.lines.items, joined_afresh x.0 _ _ _ _ _ _ (c.in-Ok-run_sites.ensures.over disks logs x.0 is) _ is.clicks_are _ (sym (ap (λ k. k.table) is.numbers)) _ x.2 _ c.in-Ok-classify.ensures (c.means.ensures.afresh x.0 c.args.store.now c.run_sites.new.store) x.1.table.0 was, written))
 
 pub returns-in-Ok-write_report-clause-ran : goal.returns-in-Ok-write_report-clause-ran
 returns-in-Ok-write_report-clause-ran g c logs disks =
     let r = (goal.at.returns-in-Ok-write_report-clause-ran g c).After-run_sites in
     let x = read_setting g r logs in
-    (x.0, x.1, history c.run_sites.new.ran.log x.0 _ _ no_plan _ x.1.setting.numbers.joiners (began x.0 _ _ _ _ _ _ (c.in-Ok-run_sites.ensures.over disks logs x.0 (of_run g r logs x.0 x.1))) (begun g r).2)
+    (x.0, x.1, history c.run_sites.new.ran.log x.0 _ _ no_plan _ (ap (λ k. k.joiners) x.1.setting.numbers) (began x.0 _ _ _ _ _ _ (c.in-Ok-run_sites.ensures.over disks logs x.0 (of_run g r logs x.0 x.1))) (begun g r).2)
 
 pub returns-clause-prefix : goal.returns-clause-prefix
 returns-clause-prefix g c logs sinks disks e =
@@ -101,7 +101,7 @@ returns-clause-prefix g c logs sinks disks e =
     let x = read_setting g r logs in
     let is = of_run g r logs x.0 x.1 in
     let took = subst (λ (ls : List ReportLine). TookPrefix (g.K.Sink.held c.args.out.now) (text_of ls) (g.K.Sink.held c.write_report.new.sink)) c.deref.ensures.value (c.in-Err-write_report.ensures.prefix sinks) in
-    (x.0, x.1, λ was. (c.in-Ok-classify.lines.items, joined x.0 _ _ _ _ _ _ (c.in-Ok-run_sites.ensures.over disks logs x.0 is) _ is.clicks_are _ (sym is.numbers.table) _ x.2 _ c.in-Ok-classify.ensures (c.means.ensures.joins x.0 c.args.store.now c.run_sites.new.store) was, took))
+    (x.0, x.1, λ was. (c.in-Ok-classify.lines.items, joined x.0 _ _ _ _ _ _ (c.in-Ok-run_sites.ensures.over disks logs x.0 is) _ is.clicks_are _ (sym (ap (λ k. k.table) is.numbers)) _ x.2 _ c.in-Ok-classify.ensures (c.means.ensures.joins x.0 c.args.store.now c.run_sites.new.store) was, took))
 
 pub returns-in-Err-clause-ends : goal.returns-in-Err-clause-ends
 returns-in-Err-clause-ends g c disks logs s asked = before_table s _ _ _ _ c.args.wanted.now.nodes.shards.now c.in-Err.bad c.in-Err.ensures.bad
@@ -113,7 +113,7 @@ returns-in-Err-checked_logs-clause-ends g c disks logs s asked =
     let before = g.S.Store.image c.args.store.now in
     let faulted = Rose (g.S.Store.faults c.args.store.now) (g.S.Store.faults c.args.store.now) in
     let read = Rose (g.F.Source.faults c.args.files.now) (g.F.Source.faults c.checked_logs.new.files) in
-    before_all s before read faulted _ f (log_caused before s.replicas (Some (asked_of s)) (TellsPlaces s) faulted (IsLate s before faulted f) read f e.fault.0 e.fault.1 (λ is. e.count.rose (e.fault.0, ap Err is)))
+    before_all s before read faulted _ f (log_caused before s.config.replicas (Some (asked_of s)) (TellsPlaces s) faulted (IsLate s before faulted f) read f e.fault.0 e.fault.1 (λ is. e.count.rose (e.fault.0, ap Err is)))
     (welcome_where f ⊤ _ (λ x. tt) (log_fair f e.fault.0 e.fault.1))
 
 pub returns-in-Err-run_sites-clause-ends : goal.returns-in-Err-run_sites-clause-ends

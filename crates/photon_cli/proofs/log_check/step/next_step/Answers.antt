@@ -1,7 +1,6 @@
-use Rattle.std.proofs.Common.{ℕ, inr, sym, subst, ◌∙◌}
-use Rattle.std.specs.Prelude.{IsErr}
+use Rattle.std.proofs.Common.{ℕ, inr, refl, sym, subst, ◌∙◌}
 use Rattle.photon_cli.proofs.Words.{AtEnd}
-use Rattle.photon_cli.proofs.LogWalk.{counts_on, at_end, long_line, line_came}
+use Rattle.photon_cli.proofs.LogWalk.{counts_moved, at_end, long_line, line_came}
 use Rattle.photon_cli.proofs.log_check.step.next_step.Goals as goal
 
 pub returns-in-Ok-End-clause-step : goal.returns-in-Ok-End-clause-step
@@ -26,4 +25,4 @@ pub returns-in-Ok-Line-clause-same : goal.returns-in-Ok-Line-clause-same
 returns-in-Ok-Line-clause-same g c = λ t. c.line_step.ensures.same t ∙ c.in-Ok-Line.ensures.same t
 
 pub returns-in-Ok-Line-clause-count : goal.returns-in-Ok-Line-clause-count
-returns-in-Ok-Line-clause-count g c = counts_on _ _ _ (IsErr c.line_step.result) c.in-Ok-Line.ensures.count.later c.line_step.ensures.count
+returns-in-Ok-Line-clause-count g c = counts_moved _ _ _ _ _ c.in-Ok-Line.ensures.tally refl c.line_step.ensures.count

@@ -6,14 +6,14 @@ use Rattle.registry_server.proofs.registrar.Registrar.new.Goals as goal
 pub invariant_of-result : goal.invariant_of-result
 invariant_of-result c =
     let config = c.args.station.config in
-    let g : Setting = record worked { horizon = config.horizon; joiners = config.joiners; table = config.table; batch = config.batch; replicas = config.replicas } in
+    let g : Setting = record worked { config = config } in
     let e = c.in_ok-core.ensures in
     let horizon : config.horizon < 2 ^ 64 = search rules in
     record {
       setting = g;
       kept = _;
       live = _;
-      stands = e.stands g (record { joiners = refl; horizon = refl; table = refl; batch = refl; replicas = refl });
+      stands = e.stands g refl;
       plan =
           record {
             site = subst (λ (n : ℕ). n < 2) (sym e.site) c.requires;
@@ -25,4 +25,4 @@ invariant_of-result c =
     }
 
 pub returns-clause-serves : goal.returns-clause-serves
-returns-clause-serves c = λ g new. (c.in_ok-core.ensures.stands g new).numbers
+returns-clause-serves c = λ g new. (c.in_ok-core.ensures.stands g new).config

@@ -43,4 +43,4 @@ returns-clause-same c = λ g k l h.
     let item = c.index_mut-shard.result.now in
     let number = c.from-2.ensures in
     let within : c.from-2.result < length core.shards.items = omega arith in
-    record { numbers = h.numbers; epoch = h.epoch; round = h.round; each = set_each core.shards.items l.shards c.from-2.result item c.gets.new.self within c.index_mut-shard.ensures.value c.gets.ensures.same h.each }
+    record { config = h.config; epoch = h.epoch; round = h.round; each = set_each core.shards.items l.shards c.from-2.result item c.gets.new.self within c.index_mut-shard.ensures.value c.gets.ensures.same h.each }

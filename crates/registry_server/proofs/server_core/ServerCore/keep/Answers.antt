@@ -7,7 +7,7 @@ pub returns-clause-kept : goal.returns-clause-kept
 returns-clause-kept c = λ g k l h.
     let kept = land land_server (option_map note_of c.args.turn.note) k in
     let epoch = c.epoch_after-self.ensures ∙ ap (λ (e : ℕ). (land land_server (option_map note_of c.args.turn.note) (record { epoch = e })).epoch) h.epoch in
-    c.change.ensures.kept g kept l (record { numbers = h.numbers; epoch = epoch; round = h.round; each = h.each })
+    c.change.ensures.kept g kept l (record { config = h.config; epoch = epoch; round = h.round; each = h.each })
 
 pub returns-clause-begun : goal.returns-clause-begun
 returns-clause-begun c = λ g k l serves begins.

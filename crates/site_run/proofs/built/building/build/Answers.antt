@@ -63,7 +63,7 @@ returns-clause-up g c i d below = (c.loop-number.invariant.made.up.at i d below)
 pub returns-clause-places : goal.returns-clause-places
 returns-clause-places g c tells s d start =
     let i = c.loop-number.invariant in
-    are_down_over _ s d (c.node_numbers.ensures s) _ (omega (arith, i.count, c.loop-number-test.false, c.loop-number.auto.number-end, start.logs.numbers.joiners, start.logs.numbers.replicas)) (i.made.over tells s d start).1
+    are_down_over _ s d (c.node_numbers.ensures s) _ (omega (arith, i.count, c.loop-number-test.false, c.loop-number.auto.number-end, ap (λ k. k.joiners) start.logs.numbers, ap (λ k. k.replicas) start.logs.numbers)) (i.made.over tells s d start).1
 
 pub returns-clause-held : goal.returns-clause-held
 returns-clause-held g c =

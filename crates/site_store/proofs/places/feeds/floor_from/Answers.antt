@@ -1,4 +1,4 @@
-use Rattle.std.proofs.Common.{◌≡◌, ◌+◌, ◌∙◌, subst, arith, List, ℕ, take, drop}
+use Rattle.std.proofs.Common.{◌≡◌, ◌≤◌, ◌+◌, ◌∙◌, sym, subst, arith, List, ℕ, take, drop}
 use Rattle.site_store.proofs.Words.{length-take, NoneBetween, IsFloorFrom, IsBehindFeed}
 use Rattle.site_store.proofs.Stretches.{floor_stays, none_past, read_stands}
 use Rattle.site_store.proofs.places.feeds.floor_from.Goals as goal
@@ -21,5 +21,5 @@ loop-at-preserved g c =
       low = omega (arith, c.loop-at.invariant.low);
       high = omega (arith, c.in_ok-n.ensures.fits, c.min-room.ensures, length-take c.min-room.result c.loop-at.block, c.loop-at-test.true);
       same = λ t. c.in_ok-n.ensures.same t ∙ c.loop-at.invariant.same t;
-      later = omega (arith, c.loop-at.invariant.later, c.in_ok-n.ensures.count.later);
+      later = subst (λ k. g.L.LogFile.faults c.args.log.now ≤ k) (sym c.in_ok-n.ensures.tally) c.loop-at.invariant.later;
     }

@@ -1,10 +1,14 @@
-use Rattle.std.proofs.Common.{rules, ◌≡◌, ◌≢◌, ◌+◌, ◌≤◌, true, None, Some, Err, arith, refl, sym, ap, ◌∙◌, subst}
+use Rattle.std.proofs.Common.{rules, ◌≡◌, ◌≢◌, ℕ, ◌+◌, ◌≤◌, Bool, true, false, List, Option, None, Some, Err, arith, refl, sym, ap, ◌∙◌, subst}
+use Rattle.std.specs.List.{list_any}
+use Rattle.air_bus.specs.declared.entry.Entry.{Entry}
 use Rattle.air_bus.specs.declared.entry.Entry.TheVariants.{Begin, End, Stop}
-use Rattle.air_bus.specs.declared.entry.Phase.TheVariants.{Down}
+use Rattle.air_bus.specs.declared.entry.Phase.TheVariants.{Down, Idle}
 use Rattle.air_bus.specs.History.{phase}
+use Rattle.outside.specs.Faults.{added}
+use Rattle.site_node.specs.declared.kind.NodeFault.{NodeFault}
 use Rattle.site_node.specs.declared.kind.NodeFault.TheVariants.{Stopped, Disk, Read}
 use Rattle.site_node.specs.Faults.{HasFailed, IsOfTurn, IsOfRestart, IsWhole}
-use Rattle.site_workers.specs.Works.{IsIdle, stop_count}
+use Rattle.site_workers.specs.Works.{IsIdle, HasMet, is_stop, stop_count}
 use Rattle.site_workers.proofs.Stepping.{Opened, none_of, in_turn, went_on, went_from, went_looking, went_short, opened, ended, stopped, met_more, eighth, told_same, too_often_told, plan_done, plan_stopped, plan_shut, plan_left, was_met, turn_closed, turn_left}
 use Rattle.site_workers.proofs.worker.Worker.step.Given.{Over}
 use Rattle.site_workers.proofs.worker.Worker.step.Goals as goal
@@ -99,6 +103,50 @@ returns g c =
     (λ s at epoch is. c.in-Err-turn.ensures.spent s at epoch (ap Err is))
     (λ tells s t at led. (1, (self.node, refl, c.turn.ensures.grown tells s at))))
 
+-- a node without a fault, which waits for no restart
+calm : {N : Type 0} (faults : N → ℕ) (waits : N → Bool) (w : N) (o : Option NodeFault) (mine : List Entry) → o ≡ None → waits w ≡ false → (list_any is_stop mine ≡ true → 1 ≤ faults w) × (stop_count mine ≤ 8) → HasMet faults waits w o mine
+calm faults waits w o mine none up met = record {
+  up = λ is. up;
+  stops = met.0;
+  most = met.1;
+  ended = λ is. absurd (cc (sym none ∙ is));
+  within = λ f is other short. absurd (cc (sym none ∙ is));
+}
+
+pub invariant_of-self-inside-in-Ok : goal.invariant_of-self-inside-in-Ok
+invariant_of-self-inside-in-Ok g c =
+    let m = g.N.SiteNode in
+    let self = c.self.inside in
+    let after = (goal.at.invariant_of-self-inside-in-Ok g c).After-turn in
+    let n = m.number self.node in
+    let s1 = c.begin.new.seat in
+    let s2 = c.end.new.seat in
+    let w = c.turn.new.self in
+    let d = c.in-Ok.field-0 in
+    let none_is = none g after in
+    let begun = (begins g after).begun in
+    let end = ended n s1 s2 d.note d.packets (c.begin.ensures.kept.1 ∙ self.whose) c.end.ensures.kept c.end.ensures.adds in
+    let same : stop_count s1.mine ≡ stop_count self.seat.mine + 0 = begun.stops in
+    let still : stop_count s2.mine ≡ stop_count s1.mine + 0 = end.2.stops in
+    let before = self.counted none_is in
+    let rests : phase (m.number w) s2.mine ≡ Idle = ap (λ k. phase k s2.mine) c.turn.ensures.number ∙ end.2.phased in
+    let first = calm m.faults m.waits w self.fault s1.mine none_is c.in-Ok.ensures.waits
+    (met_more m.faults m.waits self.node w self.fault self.seat.mine s1.mine (Begin n c.in-Ok-Some.input) begun.mine refl c.turn.ensures.count self.met) in
+    let met = calm m.faults m.waits w self.fault s2.mine none_is c.in-Ok.ensures.waits
+    (met_more m.faults m.waits w w self.fault s1.mine s2.mine (End n d.note d.packets end.0) end.2.mine refl (omega arith) first) in (
+      c.end.ensures.kept.1 ∙ c.begin.ensures.kept.1 ∙ self.whose ∙ ap Some (sym c.turn.ensures.number),
+      (
+        λ is. record { up = c.in-Ok.ensures.waits; closed = λ busy. absurd (cc (rests, busy)) },
+        (
+          λ is up. rests,
+          (
+            record { disk = λ disk is. absurd (cc (sym none_is ∙ is)); read = λ is. absurd (cc (sym none_is ∙ is)) },
+            (λ is. (omega (arith, before.0, same, still), before.1), (met, tt)),
+          ),
+        ),
+      ),
+    )
+
 pub invariant_of-self-inside-in-Ok-restart : goal.invariant_of-self-inside-in-Ok-restart
 invariant_of-self-inside-in-Ok-restart g c =
     let m = g.N.SiteNode in
@@ -166,7 +214,11 @@ invariant_of-self-inside-in-Err-turn g c =
           (
             record {
               disk = λ disk is. absurd (subst IsOfTurn (told_same fault (Disk disk) is) c.in-Err-turn.ensures.kind);
-              read = λ is. omega (arith, c.in-Err-turn.ensures.read (ap Err (told_same fault Read is)));
+              read = λ is.
+                  let read : fault ≡ Read = told_same fault Read is in
+                  let tally = c.in-Err-turn.ensures.log_tally in
+                  let told : m.log_faults w ≡ added (m.log_faults self.node) 1 = rw read at tally in
+                  omega (arith, told);
             },
             (
               λ is. absurd (cc is),

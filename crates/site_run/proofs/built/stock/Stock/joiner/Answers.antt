@@ -42,7 +42,7 @@ returns-in-Ok g c =
     (λ tells s d of places own.
     let number = joiner_number s _ _ _ _ of seat in
     let said = joiner_said s d _ _ _ _ _ _ _ _ one.name two.name c.into_epochs-epochs.ensures.kept c.into_output-outputs.ensures.kept own.0.0 own.0.1.0 in
-    down_at _ s d _ _ (Joiner _) at (omega (arith, at, of.replicas, c.requires.number.0), omega (arith, at, of.replicas, of.joiners, c.requires.number.1)) _ (ap d.joiners (at ∙ sym number) ∙ said)
+    down_at _ s d _ _ (Joiner _) at (omega (arith, at, ap (λ x. x.replicas) of, c.requires.number.0), omega (arith, at, ap (λ x. x.replicas) of, ap (λ x. x.joiners) of, c.requires.number.1)) _ (ap d.joiners (at ∙ sym number) ∙ said)
     (node.stands tells s (record { epoch = c.into_epochs-epochs.result.value.epoch; pairs = c.into_output-outputs.result.value.pairs.items }) of own.2.0 refl refl))
 
 pub returns-in-Err : goal.returns-in-Err

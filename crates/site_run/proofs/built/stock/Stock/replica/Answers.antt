@@ -18,4 +18,4 @@ returns g c =
     (one_used _ c.args.number _ _ a (omega (arith, c.requires.number.0)) c.requires.number.1 refl one.taken (ap (number_of c.args.self.now.config) one.name ∙ omega (arith, c.requires.number.0)) refl refl)
     _ _ _ _ _ _ c.requires.left _ refl refl (record { numbered = omega (arith, node.number, c.requires.number.0); up = ap is_some node.up })
     (ap (λ l. l ∷ []) (lent_is a _ _ one.name (c.into_votes-votes.ensures.disk ∙ sym node.disk))) refl
-    (λ tells s d of places own. down_at _ s d _ _ (Replica _) (omega (arith, c.requires.number.0)) (omega (arith, c.requires.number.0, c.requires.number.1, of.replicas)) _ (replica_said s d _ _ _ _ one.name c.into_votes-votes.ensures.kept own.0.0) (node.stands tells s of))
+    (λ tells s d of places own. down_at _ s d _ _ (Replica _) (omega (arith, c.requires.number.0)) (omega (arith, c.requires.number.0, c.requires.number.1, ap (λ x. x.replicas) of)) _ (replica_said s d _ _ _ _ one.name c.into_votes-votes.ensures.kept own.0.0) (node.stands tells s of))
