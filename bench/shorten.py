@@ -6,12 +6,13 @@ usage: bench/shorten.py CRATE [FILE..] [--jobs N] [--rounds N] [--least N]
 Run it at the top of the repository, with the crates below CRATE built. For each lemma of crates/CRATE/proofs/*.antt (or of the files named,
 as Lists) that takes several lines it writes tries into a copy of the file: one call of `grind`, with the lemmas that the proof cites and
 its recursive calls, in place of all equations (cases on options, sums and Booleans put together), of one equation, of the body behind a row
-of `let`s, of a field of a record, or of all that in a function of a `where`. One `rt check --only` of an empty function that cites the
-copies says which pass. Of each lemma the try that saves most is taken; then names are left out of its list while it passes (--rounds, a
-check each). The sources get what is left, lemmas that then stand nowhere else go, and all other files are put back, also after an interrupt.
+of `let`s, of a field of a record, or of all that in a function of a `where`; and a last equation with `_` in place of all with the same
+right side. One `rt check --only` of an empty function that cites the copies says which pass. Of each lemma the try that saves most is
+taken; then names are left out of its list while it passes (--rounds, a check each). The sources get what is left, lemmas that then stand
+nowhere else go, and all other files are put back, also after an interrupt.
 
-Then run `rt check CRATE`, which proves the functions too; where a call passes only with `steps 1000000`, write that behind it. `rt tidy
-CRATE` drops imports that nothing uses. Lemmas are found by the layout of `rt fmt`; a file with no `pub` lemma is passed over.
+Then run `rt check CRATE`, which proves the functions too. `rt tidy CRATE` drops imports that nothing uses. Lemmas are found by the layout
+of `rt fmt`; a file with no `pub` lemma is passed over.
 """
 import argparse
 import collections
@@ -22,7 +23,6 @@ import re
 import shutil
 import subprocess
 
-STEPS = ' steps 1000000'
 WORD = re.compile(r"[^\s(){}\[\],;]+")
 NAME = r"[\w\-≢']+"
 PLAIN = set('''refl sym ap subst inl inr ⊎_elim absurd tt omega arith cc rw simp search grind let in where λ record
@@ -166,7 +166,7 @@ class Tries:
         words = {w for a in args for w in WORD.findall(a)} | skip
         listed = [n for n in self.cited(text, words | {lemma.name}) + [m for m in more if m in WORD.findall(text)]]
         listed = list(dict.fromkeys(listed)) + self.calls_itself(lemma, text, args)
-        return ('grind (' + ', '.join(['arith'] + listed) + ')' if listed else 'grind arith') + STEPS
+        return 'grind (' + ', '.join(['arith'] + listed) + ')' if listed else 'grind arith'
 
     def of(self, lemma, more=(), skip=frozenset()):
         """Pairs of the lines saved and the equations of a try."""
@@ -183,12 +183,20 @@ class Tries:
         for merged, rights, lines in groups.values():
             call = ' '.join([front] + named(merged)) + ' = ' + self.call(lemma, '\n'.join(rights), named(merged), more, skip)
             new += lines[0] if len(groups) > 1 and len(lines) == 1 and count(lines[0]) == 1 else [call]
-        out = [(sum(map(count, lemma.equations)) - len(new), new)]
+        out = [(sum(map(count, lemma.equations)) - len(new), new), self.with_rest(lemma, parsed)]
         for j, ((args, right), lines) in enumerate(zip(parsed, lemma.equations)):
             others = [sum(lemma.equations[:j], []), sum(lemma.equations[j + 1:], [])]
             for saved, new in self.of_equation(lemma, args, right, lines, more, skip):
                 out.append((saved, others[0] + new + others[1]))
         return [(saved, new) for saved, new in out if saved > 0 and is_balanced('\n'.join(new))]
+
+    def with_rest(self, lemma, parsed):
+        """The equations with one for all whose right side is the most common one."""
+        (right, n), = collections.Counter(right for _, right in parsed).most_common(1)
+        kept = [e for (_, r), e in zip(parsed, lemma.equations) if r != right] or lemma.equations[:1]
+        last = [a[0] if len(set(a)) == 1 else '_' for a in itertools.zip_longest(*(args for args, r in parsed if r == right))]
+        new = sum(kept, []) + [' '.join([' ' * lemma.indent + lemma.name] + last) + ' = ' + right]
+        return (sum(map(count, lemma.equations)) - count(new) if n > 1 else 0), new
 
     def of_equation(self, lemma, args, right, lines, more, skip):
         if count(lines) < 2:
@@ -273,7 +281,7 @@ class Crate:
 def fewer_names(equations):
     """The same try with names left out of one list."""
     for i, line in enumerate(equations):
-        m = re.search(r'grind \((.*)\)(?=' + STEPS + ')', line)
+        m = re.search(r'grind \(((?:[^()]|\([^()]*\))*)\)', line)
         if m:
             listed = re.split(r', (?![^(]*\))', m.group(1))
             for n in listed[1:]:
@@ -341,7 +349,7 @@ def main():
         crate.put_back()
     for _, (file, f, new, saved) in sorted(best.items(), reverse=True, key=lambda b: b[0]):
         print(os.path.basename(file.path), f.name, saved)
-        file.lines[f.start + len(f.head):f.end + 1] = [x.replace(STEPS, '') for x in new]
+        file.lines[f.start + len(f.head):f.end + 1] = new
         open(file.path, 'w').write(file.text())
     print(len(best), 'lemmas,', sum(b[3] for b in best.values()), 'lines fewer', flush=True)
     without_dead(crate.folder)

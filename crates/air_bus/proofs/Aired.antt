@@ -1,41 +1,19 @@
 -- What follows for an aired history.
-use Rattle.std.proofs.Common.{◌≡◌, ◌≢◌, inl, inr, ℕ, ◌-◌, ◌==◌, ◌++◌, Bool, true, false, List, [], ◌∷◌, map, Some, None, fold, refl, sym, ap, subst, append_assoc}
+use Rattle.std.proofs.Common.{◌≡◌, ◌≢◌, ℕ, ◌-◌, ◌==◌, ◌++◌, Bool, List, [], ◌∷◌, map, Some, fold, subst, append_assoc, arith}
 use Rattle.std.specs.Prelude.{Option, option_map, find, nat_lt}
-use Rattle.air_bus.proofs.Words.{cond_both, eqb-true, Mem, Each, mem_left, mem_right, each_append, each_more, each_from, Kind, Fate, Deliver, Drop, Twice, Late, PlanView, Input, Start, Tick, Own, Packet, Entry, Begin, End, Stop, Phase, Down, Idle, Busy, Copy, copies_of, take_out, sooner, least_of, next_copy, packet_input, or_other, Received, nothing, link_fate, ordinal, arriving, puts_one, one_packet, puts, taken_by, after_entry, waiting, MayFollow, next_input, node_of, phase, IsStart, Fits, Sent, sent_to, sent_by, sent}
+use Rattle.air_bus.proofs.Words.{cond_both, eqb-true, Mem, Each, mem_left, mem_right, each_append, each_more, each_from, Kind, PlanView, Input, Packet, Entry, Begin, End, Stop, Phase, Busy, Copy, copies_of, take_out, sooner, next_copy, packet_input, or_other, Received, nothing, link_fate, arriving, puts_one, one_packet, puts, taken_by, after_entry, waiting, MayFollow, next_input, node_of, phase, IsStart, Fits, Sent, sent_to, sent_by, sent}
 
 -- ---- turns alternate
 
 -- what an up node takes is no start
 no_start : (next : Option Copy) (tick wants : Bool) (i : Input) → or_other (option_map packet_input next) tick wants ≡ Some i → IsStart i → ⊥
-no_start (Some c) tick wants i is start = subst IsStart (some_same i (packet_input c) (sym is)) start
-  where
-    some_same : (a b : Input) → Some a ≡ Some b → a ≡ b
-    some_same a b e = cc
-no_start None true wants i is start = subst IsStart (some_same i Tick (sym is)) start
-  where
-    some_same : (a b : Input) → Some a ≡ Some b → a ≡ b
-    some_same a b e = cc
-no_start None false true i is start = subst IsStart (some_same i Own (sym is)) start
-  where
-    some_same : (a b : Input) → Some a ≡ Some b → a ≡ b
-    some_same a b e = cc
-no_start None false false i is start = none_is i is
-  where
-    none_is : (a : Input) → None ≡ Some a → ⊥
-    none_is a e = cc
+no_start h tick wants i is start = grind arith
 
 fits_begin : (p : Phase) (next : Option Copy) (tick wants : Bool) (node : ℕ) (i : Input) → p ≢ Busy → next_input p next tick wants ≡ Some i → Fits p (Begin node i)
-fits_begin Down next tick wants node i closed is = subst IsStart (some_same Start i is) tt
-  where
-    some_same : (a b : Input) → Some a ≡ Some b → a ≡ b
-    some_same a b e = cc
-fits_begin Idle next tick wants node i closed is = no_start next tick wants i is
-fits_begin Busy next tick wants node i closed is = closed refl
+fits_begin h next tick wants node i closed is = grind arith
 
 pub fits : (plan : PlanView) (kinds : List Kind) (before : List Entry) (e : Entry) → MayFollow plan kinds before e → Fits (phase (node_of e) before) e
-fits plan kinds before (Begin node i) may = fits_begin (phase node before) (next_copy (waiting plan kinds node before)) may.1.0 may.1.1 node i may.0 may.1.2
-fits plan kinds before (End node noted packets kept) may = subst (λ p. Fits p (End node noted packets kept)) (sym may.0) tt
-fits plan kinds before (Stop node landed) may = subst (λ p. Fits p (Stop node landed)) (sym may) tt
+fits plan kinds before h may = grind (arith, fits_begin, phase)
 
 -- ---- what was delivered was sent
 
@@ -49,39 +27,19 @@ module _ (P : Copy → Type 0) where
   each_out d (c ∷ cs) e = cond_both (c.delay == d) cs (c ∷ take_out d cs) (Each P) (λ _. e.1) (λ _. (e.0, each_out d cs e.1))
 
   each_found : (t : Copy → Bool) (cs : List Copy) (c : Copy) → Each P cs → find t cs ≡ Some c → P c
-  each_found t [] c e is = absurd (none_is c is)
-    where
-      none_is : (a : Copy) → None ≡ Some a → ⊥
-      none_is a s = cc
-  each_found t (x ∷ cs) c e is = cond_both (t x) (Some x) (find t cs) (λ o. o ≡ Some c → P c) (λ _ s. subst P (some_same x c s) e.0) (λ _ s. each_found t cs c e.1 s) is
-    where
-      some_same : (a b : Copy) → Some a ≡ Some b → a ≡ b
-      some_same a b s = cc
+  each_found t [] c e is = grind arith
+  each_found t (x ∷ cs) c e is = grind (arith, each_found t cs c e.1)
 
 each_sooner : (n : ℕ) (ss : List Sent) (cs : List Copy) → Each (IsSent n ss) cs → Each (IsSent n ss) (map sooner cs)
 each_sooner n ss [] e = tt
 each_sooner n ss (c ∷ cs) e = (e.0, each_sooner n ss cs e.1)
 
 each_taken : (n : ℕ) (ss : List Sent) (i : Input) (r : Received) → Each (IsSent n ss) r.copies → Each (IsSent n ss) (taken_by i r).copies
-each_taken n ss Start r e = e
-each_taken n ss Tick r e = e
-each_taken n ss Own r e = e
-each_taken n ss (Packet from bytes) r e = each_sooner n ss (take_out (least_of r.copies) r.copies) (each_out (IsSent n ss) (least_of r.copies) r.copies e)
-
-each_copies : (n : ℕ) (ss : List Sent) (f : Fate) (from : ℕ) (bytes : List ℕ) → Mem (record { from = from; to = n; bytes = bytes }) ss → Each (IsSent n ss) (copies_of f from bytes)
-each_copies n ss Deliver from bytes m = (m, tt)
-each_copies n ss Drop from bytes m = tt
-each_copies n ss (Twice by) from bytes m = (m, (m, tt))
-each_copies n ss (Late by) from bytes m = (m, tt)
+each_taken n ss h r e = grind (arith, each_sooner, each_out)
 
 module _ (plan : PlanView) (kinds : List Kind) (n : ℕ) where
   each_packet : (ss : List Sent) (from : ℕ) (is_kept : Bool) (r : Received) (p : ℕ × List ℕ) → Mem (sent_to from p) ss → Each (IsSent n ss) r.copies → Each (IsSent n ss) (one_packet plan kinds n from is_kept r p).copies
-  each_packet ss from is_kept r p m e = cond_both (p.0 == n) (puts_one plan kinds n from p.1 is_kept r) r (λ (x : Received). Each (IsSent n ss) x.copies)
-      (λ t.
-      let here : Mem (record { from = from; to = n; bytes = p.1 }) ss = subst (λ (k : ℕ). Mem (record { from = from; to = k; bytes = p.1 }) ss) (eqb-true p.0 n t) m in
-      each_append (IsSent n ss) r.copies (arriving plan kinds n from p.1 is_kept r) e
-      (cond_both is_kept (copies_of (link_fate plan kinds from n (ordinal from r)) from p.1) [] (Each (IsSent n ss)) (λ _. each_copies n ss (link_fate plan kinds from n (ordinal from r)) from p.1 here) (λ _. tt)))
-      (λ _. e)
+  each_packet ss from is_kept r p m e = grind (arith, cond_both, puts_one, eqb-true, each_append, arriving, copies_of, link_fate)
 
   each_puts : (ss : List Sent) (from : ℕ) (ps : List (ℕ × List ℕ)) (kept : ℕ) (r : Received) → Each (λ (p : ℕ × List ℕ). Mem (sent_to from p) ss) ps → Each (IsSent n ss) r.copies → Each (IsSent n ss) (puts plan kinds n from ps kept r).copies
   each_puts ss from [] kept r m e = e
@@ -92,8 +50,7 @@ module _ (plan : PlanView) (kinds : List Kind) (n : ℕ) where
     where
       mapped : (p : ℕ × List ℕ) (qs : List (ℕ × List ℕ)) → Mem p qs → Mem (sent_to from p) (map (sent_to from) qs)
       mapped p [] m = absurd m
-      mapped p (q ∷ qs) (inl e) = inl (ap (sent_to from) e)
-      mapped p (q ∷ qs) (inr m) = inr (mapped p qs m)
+      mapped p (q ∷ qs) h = grind (arith, mapped p qs)
 
   wider : (ss ts : List Sent) (cs : List Copy) → Each (IsSent n ss) cs → Each (IsSent n (ss ++ ts)) cs
   wider ss ts cs e = each_more (IsSent n ss) (IsSent n (ss ++ ts)) cs (λ c m. mem_left (record { from = c.from; to = n; bytes = c.bytes }) ss ts m) e
@@ -115,29 +72,8 @@ waiting_sent plan kinds n h = each_received plan kinds n [] nothing h tt
 
 -- a packet is next only where it is the next copy
 packet_next : (p : Phase) (next : Option Copy) (tick wants : Bool) (from : ℕ) (bytes : List ℕ) → p ≢ Busy → next_input p next tick wants ≡ Some (Packet from bytes) → (c : Copy) × (next ≡ Some c) × (c.from ≡ from) × (c.bytes ≡ bytes)
-packet_next Down next tick wants from bytes closed is = absurd (no is)
-  where
-    no : Some Start ≡ Some (Packet from bytes) → ⊥
-    no e = cc
-packet_next Busy next tick wants from bytes closed is = absurd (closed refl)
-packet_next Idle (Some c) tick wants from bytes closed is = (c, refl, cc, cc)
-packet_next Idle None true wants from bytes closed is = absurd (no is)
-  where
-    no : Some Tick ≡ Some (Packet from bytes) → ⊥
-    no e = cc
-packet_next Idle None false true from bytes closed is = absurd (no is)
-  where
-    no : Some Own ≡ Some (Packet from bytes) → ⊥
-    no e = cc
-packet_next Idle None false false from bytes closed is = absurd (no is)
-  where
-    no : {A : Type 0} {a : A} → None ≡ Some a → ⊥
-    no e = cc
+packet_next h next tick wants from bytes closed is = grind arith
 
 pub delivered : (plan : PlanView) (kinds : List Kind) (before : List Entry) (node from : ℕ) (bytes : List ℕ) → MayFollow plan kinds before (Begin node (Packet from bytes))
     → Mem (record { from = from; to = node; bytes = bytes }) (sent before)
-delivered plan kinds before node from bytes may =
-    let got = packet_next (phase node before) (next_copy (waiting plan kinds node before)) may.1.0 may.1.1 from bytes may.0 may.1.2 in
-    let cs = waiting plan kinds node before in
-    let m : IsSent node (sent before) got.0 = each_found (IsSent node (sent before)) (λ (c : Copy). c.delay == least_of cs) cs got.0 (waiting_sent plan kinds node before) got.1 in
-    subst (λ (s : Sent). Mem s (sent before)) (λ i. record { from = got.2 i; to = node; bytes = got.3 i }) m
+delivered plan kinds before node from bytes may = grind (arith, packet_next, phase, next_copy, waiting, each_found, waiting_sent)

@@ -1,6 +1,5 @@
 -- What the packets of an end do to the inboxes.
 use Rattle.std.proofs.Common.{◌≡◌, ℕ, suc, zero, ◌+◌, ◌-◌, ◌<◌, ◌==◌, Bool, true, false, if◌then◌else◌, List, [], ◌∷◌, length, get_or, set, take, drop, fold, refl, sym, ap, ◌∙◌, subst, arith, get_or-set_other, get_or-set_same, eq-eqb, ne_eqb}
-use Rattle.std.specs.Prelude.{nat_lt}
 use Rattle.air_bus.proofs.Words.{lt-ltb, get_or_read, fold_more, dite, ℕ_discrete, Kind, PlanView, Inbox, Keeps, Turns, AllTurn, Received, puts, puts_one, one_packet}
 
 module _ (plan : PlanView) (kinds : List Kind) where
@@ -10,12 +9,7 @@ module _ (plan : PlanView) (kinds : List Kind) where
   puts_split n from [] zero r = refl
   puts_split n from [] (suc k) r = refl
   puts_split n from (p ∷ ps) zero r = puts_split n from ps zero (one_packet plan kinds n from false r p)
-  puts_split n from (p ∷ ps) (suc k) r =
-      let less : suc k - 1 ≡ k = omega arith in
-      let some : nat_lt 0 (suc k) ≡ true = lt-ltb 0 (suc k) (omega arith) in
-      ap (λ m. puts plan kinds n from ps m (one_packet plan kinds n from (nat_lt 0 (suc k)) r p)) less
-      ∙ ap (λ b. puts plan kinds n from ps k (one_packet plan kinds n from b r p)) some
-      ∙ puts_split n from ps k (one_packet plan kinds n from true r p)
+  puts_split n from (p ∷ ps) (suc k) r = grind (arith, lt-ltb, puts_split n from ps k)
 
   -- a packet to one inbox
   pub turn_step : (from : ℕ) (is_kept : Bool) (olds mids : List Inbox) (at to : ℕ) (bytes : List ℕ) (x new : Inbox) (f : ℕ → Received → Received)

@@ -1,5 +1,5 @@
 -- What `begin` did, from its steps.
-use Rattle.std.proofs.Common.{◌≡◌, ℕ, Bool, List, [], ◌∷◌, ◌++◌, length, drop, Some, None, Ok, Err, Option, Result, MatchOption, IfOk, sym, ap, ◌∙◌, subst, append-nil}
+use Rattle.std.proofs.Common.{◌≡◌, ℕ, Bool, List, [], ◌∷◌, ◌++◌, length, drop, Some, None, Option, Result, MatchOption, IfOk, sym, ap, ◌∙◌, append-nil, arith}
 use lib.Seq.{drop-append_seam}
 use Rattle.std.proofs.lemmas.List.{drop_all}
 use Rattle.atomic_table.specs.Seated.{TableId}
@@ -35,11 +35,4 @@ begins_on a b v since hand n wants tick (Some i) stands answer is =
 pub begun : {E : Type 0} (a b : TableId) (m m' : Sat) (w : View) (hand : List Entry) (n : ℕ) (wants tick : Bool) (r : Result (Option Input) E) → Took m m' → m.0.number ≡ Some n → w ≡ off (caught_up m'.0 hand)
     → IfOk r (λ input. input ≡ next_input (phase n m'.0.seen) (next_for m'.0.base n m'.0.seen) tick wants) → IfOk r (λ input. MatchOption input (hand ≡ m'.0.seen) (λ i. hand ≡ m'.0.seen ++ Begin n i ∷ []))
     → IfOk r (λ input. Begins n wants tick (sight a m.0) input (sight b w))
-begun a b m m' w hand n wants tick (Err e) t num is answer some = tt
-begun a b m m' w hand n wants tick (Ok input) t num is answer some =
-    let all : List Entry = m.0.seen ++ t.0 in
-    let seen : m'.0 ≡ (holding m.0 all).0 = ap (λ (x : Sat). x.0) t.1 in
-    let stands : phase n all ≡ phase n m.0.mine = ap (λ (v : View). phase n v.seen) (sym seen) ∙ took_phase m m' n t num in
-    let answer' = subst (λ (v : View). input ≡ next_input (phase n v.seen) (next_for v.base n v.seen) tick wants) seen answer in
-    let some' = subst (λ (v : View). MatchOption input (hand ≡ v.seen) (λ i. hand ≡ v.seen ++ Begin n i ∷ [])) seen some in
-    subst (λ (v : View). Begins n wants tick (sight a m.0) input (sight b v)) (ap (λ (v : View). off (caught_up v hand)) (sym seen) ∙ sym is) (begins_on a b m.0 t.0 hand n wants tick input stands answer' some')
+begun a b m m' w hand n wants tick h t num is answer some = grind (arith, took_phase, begins_on)

@@ -1,9 +1,7 @@
 -- All seats, joined into the last of them.
 use Rattle.std.proofs.Common.{◌≡◌, ℕ, zero, suc, ◌+◌, ◌<◌, ◌≤◌, List, [], ◌∷◌, ◌++◌, length, map, Some, None, Option, IfSome, MatchOption, refl, sym, ap, ◌∙◌, subst, arith, append_assoc, length-append}
 use Rattle.std.specs.Prelude.{All}
-use mathlib.Core.Logic.{dite}
 use mathlib.Core.List.{IsPrefix, map-append}
-use native.Mathlib.Decide.{ℕ_discrete}
 use Rattle.std.proofs.lemmas.List.Elements.{All-nil, All-cons, All-head, All-tail, All-append}
 use Rattle.atomic_table.specs.Seated.{TableId}
 use Rattle.air_bus.specs.declared.entry.Entry.{Entry}
@@ -16,7 +14,7 @@ use Rattle.bus_seat.specs.Views.{count, flown, made_by, ended, own, told, named,
 use Rattle.bus_seat.specs.Rule.{IsTold, Orderly}
 use Rattle.bus_seat.specs.Seats.{BusId, Sight, sight, IsAtRest, fresh, fresh_to, tag, AreSeatsOf, IsIn, ends, gathered}
 use Rattle.bus_seat.proofs.Moves.{closes}
-use Rattle.bus_seat.proofs.Sums.{named_own, named_here, named_append}
+use Rattle.bus_seat.proofs.Sums.{named_append}
 
 pub snoc_injective : {A : Type 0} (xs ys : List A) (x y : A) → xs ++ x ∷ [] ≡ ys ++ y ∷ [] → (xs ≡ ys) × (x ≡ y)
 snoc_injective [] [] x y e = (refl, cc e)
@@ -39,19 +37,11 @@ named_tags : (n : ℕ) (ss ts : List Sight) → map tag ss ≡ map tag ts → na
 named_tags n [] [] e = refl
 named_tags n [] (t ∷ ts) e = absurd (cc e)
 named_tags n (s ∷ ss) [] e = absurd (cc e)
-named_tags n (s ∷ ss) (t ∷ ts) e =
-    let head : tag s ≡ tag t = cc e in
-    let rest = named_tags n ss ts (cc e) in
-    named_append n (own s.number s.seen s.mine) (ends ss) ∙ ap (λ k. named n (own s.number s.seen s.mine) + k) rest ∙ sym (named_append n (own s.number s.seen s.mine) (ends ts))
-    ∙ named_own n s.number s.seen s.mine t.seen t.mine (ends ts) ∙ ap (λ (x : BusId × Option ℕ). named n (own x.1 t.seen t.mine ++ ends ts)) head
+named_tags n (s ∷ ss) (t ∷ ts) e = grind (arith, named_append, named_tags n ss ts (cc e))
 
 all_named : (n m : ℕ) (bus : BusId) → n < m → 0 < named n (ends (fresh_to bus m))
 all_named n zero bus l = absurd (omega (arith, l))
-all_named n (suc m) bus l =
-    let push = ap (named n) (ends_append (fresh_to bus m) (fresh bus (Some m) ∷ [])) ∙ named_append n (ends (fresh_to bus m)) (ends (fresh bus (Some m) ∷ [])) in
-    dite (ℕ_discrete m n)
-    (λ same. let one = ap (λ k. named n (own (Some k) [] [] ++ [])) same ∙ named_here n [] [] [] in omega (arith, push, one))
-    (λ ne. omega (arith, push, all_named n m bus (omega (arith, l, ne))))
+all_named n (suc m) bus l = grind (arith, ends_append, named_append, all_named n m bus)
 
 -- each number that was given out stands in what the seats left
 pub seats_named : (bus : BusId) (front : List Sight) → map tag front ≡ map tag (fresh_to bus (count bus.base)) → (n : ℕ) → n < (count bus.base) → 0 < named n (ends front)

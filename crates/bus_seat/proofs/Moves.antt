@@ -36,21 +36,7 @@ moved : (base : Flight) (s : St) (o : Orderly base s) (id : ℕ) (v w : View) (w
     → ((j : ℕ) (u : View) → j ≢ id → get_elem? s.views j ≡ some u → Fits base o.next log u)
     → ((n : ℕ) → names n w ≡ names n v) → gives_of w ≡ gives_of v → ((n : ℕ) → o.next ≤ n → made_by n log ≡ [])
     → Orderly base record { words = words; homes = homes; views = set s.views id w }
-moved base s o id v w words homes log at two one counted turns bit home mine others same giver fresh = record {
-  log = log;
-  next = o.next;
-  three_words = two;
-  one_slot = one;
-  counted = counted;
-  turns = omega (arith, sum_set turn_of s.views id v w at, o.turns, turns);
-  one_turn = bit;
-  home = home;
-  each_view = λ j u e. ⊎_elim (λ (t : (j ≡ id) × (w ≡ u)). subst (Fits base o.next log) t.1 mine) (λ (t : (j ≢ id) × (get_elem? s.views j ≡ some u)). others j u t.0 t.1) (at_set s.views id j w u e);
-  once = λ n l. omega (arith, sum_set (names n) s.views id v w at, o.once n l, same n);
-  never = λ n l. omega (arith, sum_set (names n) s.views id v w at, o.never n l, same n);
-  one_giver = omega (arith, sum_set gives_of s.views id v w at, o.one_giver, giver);
-  fresh = fresh;
-}
+moved base s o id v w words homes log at two one counted turns bit home mine others same giver fresh = grind (arith, sum_set, at_set)
 
 -- a step that changes nothing
 unmoved : (base : Flight) (s : St) (o : Orderly base s) (i id : ℕ) (v : View) (cs : List (ℕ × Flight)) → get_elem? s.views id ≡ some v → Orderly base (stepped s i (get_or s.words i 0) id cs v keeps)
@@ -264,9 +250,7 @@ splits base id k v is s o at =
       one_turn = o.one_turn;
       home = o.home;
       each_view = λ j u e. ⊎_elim (old j u) (λ (t : new ≡ u). subst (Fits base (o.next + 1) o.log) t right) (at_snoc vs new u j e);
-      once = λ m l. dite (ℕ_discrete m k)
-          (λ same. let it : names m new ≡ 1 = ap (λ j. names j new) same ∙ new-name in omega (arith, sum_push (names m) vs new, sum_set (names m) s.views id v w at, o.never m (omega (arith, same, here)), it))
-          (λ ne. let l' : m < o.next = omega (arith, l, here, ne) in omega (arith, sum_push (names m) vs new, sum_set (names m) s.views id v w at, o.once m l', no-name m ne));
+      once = λ m l. grind (arith, sum_push, sum_set);
       never = λ m l. omega (arith, sum_push (names m) vs new, sum_set (names m) s.views id v w at, o.never m (omega (arith, l)), no-name m (λ z. omega (arith, z, l, here)));
       one_giver = omega (arith, sum_push gives_of vs new, sum_set gives_of s.views id v w at, o.one_giver, giver, giver');
       fresh = λ m l. o.fresh m (omega (arith, l));
@@ -390,6 +374,4 @@ one_in_hand cs air is = (air, is ∙ ap (λ (l : List (ℕ × Flight)). (0, air)
 
 -- the holder of the turn knows where its node stands
 pub took_phase : (m m' : Sat) (n : ℕ) → Took m m' → m.0.number ≡ Some n → phase n m'.0.seen ≡ phase n m.0.mine
-took_phase m m' n t is =
-    let mine : made_by n (m.0.seen ++ t.0) ≡ m.0.mine = subst (λ num. IfSome num (λ k. made_by k (m.0.seen ++ t.0) ≡ m.0.mine)) is t.2 in
-    ap (λ (x : Sat). phase n x.0.seen) t.1 ∙ sym (phase_made n (m.0.seen ++ t.0)) ∙ ap (phase n) mine
+took_phase m m' n t is = grind (arith, phase_made)

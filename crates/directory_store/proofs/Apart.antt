@@ -19,27 +19,14 @@ same_number m n lt lt' e = decimal_injective m n (omega (arith, lt)) (omega (ari
 -- digits end at the dash
 dash_ends : (xs ys rest rest' : List ℕ) → AllDigits 10 xs → AllDigits 10 ys → xs ++ 45 ∷ rest ≡ ys ++ 45 ∷ rest' → (xs ≡ ys) × (rest ≡ rest')
 dash_ends [] [] rest rest' h k e = (refl, cc)
-dash_ends [] (y ∷ ys) rest rest' h k e =
-    let same : 45 ≡ y = cc in
-    let range = digit_from_value y k.0 in
-    absurd (omega (arith, range.0, range.1, same))
-dash_ends (x ∷ xs) [] rest rest' h k e =
-    let same : x ≡ 45 = cc in
-    let range = digit_from_value x h.0 in
-    absurd (omega (arith, range.0, range.1, same))
-dash_ends (x ∷ xs) (y ∷ ys) rest rest' h k e =
-    let first : x ≡ y = cc in
-    let behind : xs ++ 45 ∷ rest ≡ ys ++ 45 ∷ rest' = cc in
-    let more = dash_ends xs ys rest rest' h.1 k.1 behind in
-    (cc (more.0), more.1)
+dash_ends [] (y ∷ ys) rest rest' h k e = grind (arith, digit_from_value)
+dash_ends (x ∷ xs) [] rest rest' h k e = grind arith
+dash_ends (x ∷ xs) (y ∷ ys) rest rest' h k e = grind (arith, dash_ends xs ys rest rest' h.1 k.1)
 
 -- digits don't begin with a letter
 no_letter : (letter : ℕ) (xs behind rest : List ℕ) → 57 < letter → AllDigits 10 xs → letter ∷ rest ≡ xs ++ 45 ∷ behind → ⊥
 no_letter letter [] behind rest high h e = let same : letter ≡ 45 = cc in omega (arith, high, same)
-no_letter letter (x ∷ xs) behind rest high h e =
-    let same : letter ≡ x = cc in
-    let range = digit_from_value x h.0 in
-    omega (arith, high, range.0, range.1, same)
+no_letter letter (x ∷ xs) behind rest high h e = grind arith
 
 -- a site beyond the two
 is_far : (n : ℕ) → 2 ≤ n → ((n == 0) ≡ false) × ((n == 1) ≡ false)
@@ -61,9 +48,7 @@ same_site zero (suc (suc n)) rest rest' lt lt' e = absurd (not_far 65 (suc (suc 
 same_site (suc zero) (suc (suc n)) rest rest' lt lt' e = absurd (not_far 66 (suc (suc n)) rest rest' (lit< tt) (omega arith) lt' e)
 same_site (suc (suc m)) zero rest rest' lt lt' e = absurd (not_far 65 (suc (suc m)) rest' rest (lit< tt) (omega arith) lt (sym e))
 same_site (suc (suc m)) (suc zero) rest rest' lt lt' e = absurd (not_far 66 (suc (suc m)) rest' rest (lit< tt) (omega arith) lt (sym e))
-same_site (suc (suc m)) (suc (suc n)) rest rest' lt lt' e =
-    let parts = dash_ends (decimal (suc (suc m))) (decimal (suc (suc n))) rest rest' (all_digits (suc (suc m)) lt) (all_digits (suc (suc n)) lt') (sym (far (suc (suc m)) rest (omega arith)) ∙ e ∙ far (suc (suc n)) rest' (omega arith)) in
-    (same_number (suc (suc m)) (suc (suc n)) lt lt' parts.0, parts.1)
+same_site (suc (suc m)) (suc (suc n)) rest rest' lt lt' e = grind (arith, dash_ends, all_digits, far, same_number)
 
 one_site : (m n : ℕ) → m < 2 ^ 8 → n < 2 ^ 8 → site_text m ≡ site_text n → m ≡ n
 one_site m n lt lt' e = (same_site m n [] [] lt lt' (ap (λ t. t ++ []) e)).0
@@ -109,31 +94,13 @@ built (Epoch site joiner) s j = Epoch s j
 built (Output site joiner) s j = Output s j
 
 rebuilt : (d : DiskName) → built (kind d) (site_of d) (number_of d) ≡ d
-rebuilt Topology = refl
-rebuilt (Offset site) = refl
-rebuilt (Retry site) = refl
-rebuilt (Server site) = refl
-rebuilt (Replica number) = refl
-rebuilt (Epoch site joiner) = refl
-rebuilt (Output site joiner) = refl
+rebuilt h = grind arith
 
 site_is_byte : (d : DiskName) → IsOfBytes d → site_of d < 2 ^ 8
-site_is_byte Topology h = omega arith
-site_is_byte (Offset site) h = h
-site_is_byte (Retry site) h = h
-site_is_byte (Server site) h = h
-site_is_byte (Replica number) h = omega arith
-site_is_byte (Epoch site joiner) h = h.0
-site_is_byte (Output site joiner) h = h.0
+site_is_byte k h = grind arith
 
 number_is_byte : (d : DiskName) → IsOfBytes d → number_of d < 2 ^ 8
-number_is_byte Topology h = omega arith
-number_is_byte (Offset site) h = omega arith
-number_is_byte (Retry site) h = omega arith
-number_is_byte (Server site) h = omega arith
-number_is_byte (Replica number) h = h
-number_is_byte (Epoch site joiner) h = h.1
-number_is_byte (Output site joiner) h = h.1
+number_is_byte k h = grind arith
 
 -- ---- what the text tells
 
@@ -142,27 +109,13 @@ abbrev kind_by : ℕ → ℕ → DiskName
 kind_by a c = if a == 116 then Topology else if a == 115 then Server 0 else if a == 101 then Epoch 0 0 else if a == 111 then (if c == 102 then Offset 0 else Output 0 0) else if c == 116 then Retry 0 else Replica 0
 
 tells_kind : (d : DiskName) → kind_by (get_or (name_text d) 0 0) (get_or (name_text d) 2 0) ≡ kind d
-tells_kind Topology = refl
-tells_kind (Offset site) = refl
-tells_kind (Retry site) = refl
-tells_kind (Server site) = refl
-tells_kind (Replica number) = refl
-tells_kind (Epoch site joiner) = refl
-tells_kind (Output site joiner) = refl
+tells_kind h = grind arith
 
 tells_numbers : (d : DiskName) → drop (length (word (kind d))) (name_text d) ≡ numbers d
-tells_numbers Topology = refl
-tells_numbers (Offset site) = refl
-tells_numbers (Retry site) = refl
-tells_numbers (Server site) = refl
-tells_numbers (Replica number) = refl
-tells_numbers (Epoch site joiner) = refl
-tells_numbers (Output site joiner) = refl
+tells_numbers h = grind arith
 
 both : (F : ℕ → ℕ → DiskName) (s j s' j' : ℕ) → s < 2 ^ 8 → j < 2 ^ 8 → s' < 2 ^ 8 → j' < 2 ^ 8 → site_text s ++ decimal j ≡ site_text s' ++ decimal j' → F s j ≡ F s' j'
-both F s j s' j' ls lj ls' lj' e =
-    let parts = same_site s s' (decimal j) (decimal j') ls ls' e in
-    ap (λ x. F x j) parts.0 ∙ ap (F s') (same_number j j' lj lj' parts.1)
+both h s j s' j' ls lj ls' lj' e = grind (arith, same_site, same_number)
 
 same_numbers : (k : DiskName) (s j s' j' : ℕ) → s < 2 ^ 8 → j < 2 ^ 8 → s' < 2 ^ 8 → j' < 2 ^ 8 → numbers (built k s j) ≡ numbers (built k s' j') → built k s j ≡ built k s' j'
 same_numbers Topology s j s' j' ls lj ls' lj' e = refl

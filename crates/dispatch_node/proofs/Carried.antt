@@ -9,17 +9,10 @@ IsUp Start = ⊥
 IsUp _ = Unit {0}
 
 pub knows_up : (g : Setting) (core : DispatchCore) (k : DispatcherKept) (live : Option DispatcherLive) (l : DispatcherLive) (i : Input) → IsUp i → IsAsked live i l → Knows g core k live → Stands g core k l × AreLivePlaces g l
-knows_up g core k None l Start up is knows = absurd up
-knows_up g core k None l _ up is knows = absurd is
-knows_up g core k (Some m) l Start up is knows = absurd up
-knows_up g core k (Some m) l _ up is knows = subst (λ (x : DispatcherLive). Stands g core k x × AreLivePlaces g x) is (knows.0, knows.1)
+knows_up g core k h l e up is knows = grind arith
 
 pub kept_start : (o : ℕ) (ps qs : List ℕ) (k : DispatcherKept) → kept_as o ps ≡ k → qs ≡ ps → Distinct ps → IsKept k o qs
-kept_start o ps qs k is same once = record {
-  offset_is = ap (λ (x : DispatcherKept). x.offset) is;
-  pending_is = same ∙ ap (λ (x : DispatcherKept). x.pending) is;
-  once = subst (λ (x : DispatcherKept). Distinct x.pending) is once;
-}
+kept_start o ps qs k is same once = grind arith
 
 module _ (g : Setting) (core : DispatchCore) (k : DispatcherKept) (l : DispatcherLive) (stands : Stands g core k l) (places : AreLivePlaces g l) where
   -- nothing is looked for
@@ -44,9 +37,7 @@ module _ (g : Setting) (core : DispatchCore) (k : DispatcherKept) (l : Dispatche
 
   -- none is due, and the line at the place is looked up
   pub line_found_at : (p : ℕ) (line : Option TakenLine) (due : Option Click) → (live_of core).due ≡ [] → p ≡ (live_of core).place → IsLineAt g p line → dispatcher_looks l ≡ true → IsLookedUp g l l.due line due
-  line_found_at p line due none at found looks =
-      subst (λ (ds : List ℕ). IsLookedUp g l ds line due) (sym none ∙ ap (λ (x : DispatcherLive). x.due) stands.live)
-      (subst (λ (q : ℕ). IsLineAt g q line) (at ∙ ap (λ (x : DispatcherLive). x.place) stands.live) found)
+  line_found_at p line due none at found looks = grind arith
 
   pub trying_start : (ps : List ℕ) → ps ≡ (live_of core).trying → (p : ℕ) → has ps p ≡ true → StartsAt g p
   trying_start ps is p h = places.trying p (subst (λ (qs : List ℕ). has qs p ≡ true) (is ∙ ap (λ (x : DispatcherLive). x.trying) stands.live) h)

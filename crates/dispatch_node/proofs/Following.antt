@@ -1,9 +1,8 @@
 -- A row's note is one that the disks take, and what is known goes on to fit what they keep.
-use Rattle.std.proofs.Common.{◌≡◌, ◌⊎◌, inl, inr, ⊎_elim, ℕ, ◌<◌, ◌≤◌, Bool, true, false, not, cond, ◌&&◌, ◌==◌, List, [], ◌∷◌, ◌++◌, Option, Some, None, refl, sym, ◌∙◌, ap, subst, arith}
+use Rattle.std.proofs.Common.{◌≡◌, ◌⊎◌, inl, inr, ⊎_elim, ℕ, ◌<◌, ◌≤◌, Bool, true, false, ◌==◌, List, [], ◌∷◌, ◌++◌, Option, Some, None, refl, sym, subst, arith}
 use Rattle.std.specs.Prelude.{option_map}
-use Rattle.dispatch_node.proofs.Words.{and_parts, not-true, or_cases, eqb-true, eq-eqb, lt-ltb, or_left, or_right, Mem, has, without, clash, option_both, cond_both, each_append, has_push-or, has_push-left, has_push-false, has_without-true, has_without, has_without-false, ClickLine, at, Follow, at_mem, Input, Start, Own, Tick, Deliver, Packet, Outcome, NoQuery, Busy, Setting, Note, Out, land, idle, DispatcherKept, DispatcherLive, Fresh, land_dispatcher, done_end, after_done, first_done, waits, mark, has_room, with_room, advances, retries, takes, taken, ends, parks, dispatcher_own, dispatcher_gets, dispatcher_joined, dispatcher_turn, dispatcher_start, told, DispatchNote, takes_note, takes_or_none, AreInOrder, Follows, IsRowTaken, IsEntry, AreKeptPlaces, AreLivePlaces}
+use Rattle.dispatch_node.proofs.Words.{and_parts, not-true, or_cases, eqb-true, eq-eqb, or_left, or_right, Mem, has, without, clash, option_both, cond_both, each_append, has_push-or, has_push-left, has_push-false, has_without-true, has_without, has_without-false, ClickLine, at, Follow, at_mem, Input, Packet, Outcome, Setting, Note, Out, land, idle, DispatcherKept, DispatcherLive, Fresh, land_dispatcher, done_end, after_done, first_done, waits, mark, has_room, with_room, advances, retries, takes, taken, ends, parks, dispatcher_own, dispatcher_gets, dispatcher_joined, dispatcher_turn, dispatcher_start, told, DispatchNote, takes_note, takes_or_none, AreInOrder, Follows, IsRowTaken, IsEntry, AreKeptPlaces, AreLivePlaces}
 use Rattle.turn_defs.specs.declared.packet.Packet.TheVariants as packet
-use Rattle.turn_defs.specs.Turns.{Settle}
 use Rattle.dispatch_core.specs.declared.turns.DispatchNote.TheVariants as kind
 use Rattle.dispatch_node.proofs.Places.{pushed, left_out, end_boundary, after_each, mark_each, waits_start}
 
@@ -17,27 +16,15 @@ pub record GoesOn (g : Setting) (k : DispatcherKept) (out : Out DispatcherLive) 
 
 end_after : (a : ℕ) (fs : List Fresh) (z : ℕ) → AreInOrder a fs z → a ≤ done_end a fs
 end_after a [] z o = omega arith
-end_after a (f ∷ fs) z o = go f.done (end_after f.end_ fs z o.2)
-  where
-    go : (d : Bool) → f.end_ ≤ done_end f.end_ fs → a ≤ cond d (done_end f.end_ fs) a
-    go true h = let p = o.0 in let q = o.1 in omega arith
-    go false h = omega arith
+end_after a (f ∷ fs) z o = grind (arith, end_after f.end_ fs z o.2)
 
 end_beyond : (a : ℕ) (fs : List Fresh) (z : ℕ) → AreInOrder a fs z → first_done fs ≡ true → a < done_end a fs
 end_beyond a [] z o e = clash false e refl
-end_beyond a (f ∷ fs) z o e = go f.done e (end_after f.end_ fs z o.2)
-  where
-    go : (d : Bool) → d ≡ true → f.end_ ≤ done_end f.end_ fs → a < cond d (done_end f.end_ fs) a
-    go true t h = let p = o.0 in let q = o.1 in omega arith
-    go false t h = clash false t refl
+end_beyond a (f ∷ fs) z o e = grind (arith, end_after, done_end)
 
 order_after : (a : ℕ) (fs : List Fresh) (z : ℕ) → AreInOrder a fs z → AreInOrder (done_end a fs) (after_done fs) z
 order_after a [] z o = o
-order_after a (f ∷ fs) z o = go f.done (order_after f.end_ fs z o.2)
-  where
-    go : (d : Bool) → AreInOrder (done_end f.end_ fs) (after_done fs) z → AreInOrder (cond d (done_end f.end_ fs) a) (cond d (after_done fs) (f ∷ fs)) z
-    go true h = h
-    go false h = o
+order_after a (f ∷ fs) z o = grind (arith, done_end, order_after f.end_ fs z o.2)
 
 order_push : (a : ℕ) (fs : List Fresh) (z : ℕ) (f : Fresh) → AreInOrder a fs z → f.position ≡ z → f.position < f.end_ → AreInOrder a (fs ++ f ∷ []) f.end_
 order_push a [] z f o is lt = (subst (λ (n : ℕ). a ≤ n) (sym is) o, lt, omega arith)
@@ -45,46 +32,21 @@ order_push a (x ∷ fs) z f o is lt = (o.0, o.1, order_push x.end_ fs z f o.2 is
 
 order_mark : (a p : ℕ) (fs : List Fresh) (z : ℕ) → AreInOrder a fs z → AreInOrder a (mark fs p) z
 order_mark a p [] z o = o
-order_mark a p (f ∷ fs) z o = go (f.position == p) (order_mark f.end_ p fs z o.2)
-  where
-    go : (b : Bool) → AreInOrder f.end_ (mark fs p) z → AreInOrder a (cond b (record f { done = true }) f ∷ mark fs p) z
-    go true h = (o.0, o.1, h)
-    go false h = (o.0, o.1, h)
+order_mark a p (f ∷ fs) z o = grind (arith, order_mark f.end_ p fs z o.2)
 
 -- ---- what waits
 
 waits_after : (fs : List Fresh) (q : ℕ) → waits (after_done fs) q ≡ true → waits fs q ≡ true
 waits_after [] q e = e
-waits_after (f ∷ fs) q e = go (waits_after fs q) f.done e
-  where
-    go : (waits (after_done fs) q ≡ true → waits fs q ≡ true) → (d : Bool) → waits (cond d (after_done fs) (f ∷ fs)) q ≡ true → waits (f ∷ fs) q ≡ true
-    go later true h = or_right ((f.position == q) && not f.done) (waits fs q) (later h)
-    go later false h = h
+waits_after (f ∷ fs) q e = grind (arith, waits, after_done, waits_after fs q)
 
 waits_mark : (fs : List Fresh) (p q : ℕ) → waits (mark fs p) q ≡ true → (waits fs q ≡ true) × (q ≡ p → ⊥)
 waits_mark [] p q e = clash false e refl
-waits_mark (f ∷ fs) p q e = go (λ h. let m = waits_mark fs p q h in (or_right ((f.position == q) && not f.done) (waits fs q) m.0, m.1)) (f.position == p) refl e
-  where
-    go : (waits (mark fs p) q ≡ true → (waits (f ∷ fs) q ≡ true) × (q ≡ p → ⊥)) → (b : Bool) → (f.position == p) ≡ b
-        → waits (cond b (record f { done = true }) f ∷ mark fs p) q ≡ true → (waits (f ∷ fs) q ≡ true) × (q ≡ p → ⊥)
-    go later true t h = ⊎_elim (λ here. clash false (and_parts (f.position == q) false here).1 refl) later (or_cases ((f.position == q) && false) (waits (mark fs p) q) h)
-    go later false n h =
-        ⊎_elim
-        (λ here. (
-          or_left ((f.position == q) && not f.done) (waits fs q) here,
-          λ same. clash (f.position == p) (eq-eqb f.position p (eqb-true f.position q (and_parts (f.position == q) (not f.done) here).0 ∙ same)) n,
-        ))
-        later
-        (or_cases ((f.position == q) && not f.done) (waits (mark fs p) q) h)
+waits_mark (f ∷ fs) p q e = grind (arith, or_right, waits, mark, clash, and_parts, or_cases, or_left, eq-eqb, waits_mark fs p q)
 
 waits_push : (fs : List Fresh) (f : Fresh) (q : ℕ) → waits (fs ++ f ∷ []) q ≡ true → (waits fs q ≡ true) ⊎ ((f.position ≡ q) × (f.done ≡ false))
-waits_push [] f q e =
-    ⊎_elim (λ here. inr (eqb-true f.position q (and_parts (f.position == q) (not f.done) here).0, not-true f.done (and_parts (f.position == q) (not f.done) here).1))
-    (λ none. clash false none refl) (or_cases ((f.position == q) && not f.done) false e)
-waits_push (x ∷ fs) f q e =
-    ⊎_elim (λ here. inl (or_left ((x.position == q) && not x.done) (waits fs q) here))
-    (λ later. ⊎_elim (λ old. inl (or_right ((x.position == q) && not x.done) (waits fs q) old)) (λ new. inr new) (waits_push fs f q later))
-    (or_cases ((x.position == q) && not x.done) (waits (fs ++ f ∷ []) q) e)
+waits_push [] f q e = grind (arith, eqb-true, and_parts, not-true, clash, or_cases)
+waits_push (x ∷ fs) f q e = grind (arith, or_left, waits, or_right, waits_push fs f q)
 
 -- ---- rows
 
@@ -101,31 +63,13 @@ module _ (g : Setting) (site : ℕ) (k : DispatcherKept) (l : DispatcherLive) (l
   idles = record { taken = tt; fits = fits; places = λ kept. (kept, live) }
 
   advance : first_done l.fresh ≡ true → Out_ (advances g site k l)
-  advance done = record {
-    taken = end_beyond k.offset l.fresh l.place fits.fresh done;
-    fits = record { fresh = order_after k.offset l.fresh l.place fits.fresh; waiting = λ p w. fits.waiting p (waits_after l.fresh p w); due = fits.due; trying = fits.trying };
-    places = λ kept. (
-      record { offset = end_boundary g k.offset l.fresh kept.offset live.fresh; pending = kept.pending },
-      record { place = live.place; fresh = after_each g l.fresh live.fresh; due = live.due; trying = live.trying },
-    );
-  }
+  advance done = grind (arith, end_beyond, order_after, waits_after, end_boundary, after_each)
 
   retry : (p : ℕ) (ps : List ℕ) → l.due ≡ p ∷ ps → Out_ (retries g site k l p ps (at g.clicks p))
   retry p ps due =
       let own : has l.due p ≡ true = subst (λ (ds : List ℕ). has ds p ≡ true) (sym due) (or_left (p == p) (has ps p) (eq-eqb p p refl)) in
       let still : (q : ℕ) → has ps q ≡ true → has l.due q ≡ true = λ q h. subst (λ (ds : List ℕ). has ds q ≡ true) (sym due) (or_right (p == q) (has ps q) h) in
-      option_both (at g.clicks p) (retries g site k l p ps) Out_
-      (λ c found. record {
-        taken = tt;
-        fits = record {
-          fresh = fits.fresh;
-          waiting = fits.waiting;
-          due = λ q h. fits.due q (still q h);
-          trying = λ q h. ⊎_elim (λ old. fits.trying q old) (λ new. subst (λ (n : ℕ). has k.pending n ≡ true) new (fits.due p own)) (has_push-or l.trying p q h);
-        };
-        places = λ kept. (kept, record { place = live.place; fresh = live.fresh; due = λ q h. live.due q (still q h); trying = pushed g l.trying p live.trying (c, found) });
-      })
-      (λ none. idles)
+      grind (arith, option_both, at, retries, taken, has, has_push-or, pushed)
 
   entered : (c : ClickLine) (done : Bool) → at g.clicks l.place ≡ Some c → (done ≡ false → has k.pending c.place ≡ false) → Follows k (taken g site k l c done) × AreLivePlaces g (taken g site k l c done)
   entered c done found none =
@@ -168,53 +112,13 @@ module _ (g : Setting) (site : ℕ) (k : DispatcherKept) (l : DispatcherLive) (l
   tried p = record { place = live.place; fresh = live.fresh; due = live.due; trying = left_out g l.trying p live.trying }
 
   end_join : (p : ℕ) → Out_ (ends g site k l p)
-  end_join p =
-      cond_both (waits l.fresh p) _ _ Out_
-      (λ t. record {
-        taken = tt;
-        fits = record { fresh = order_mark k.offset p l.fresh l.place fits.fresh; waiting = λ q w. fits.waiting q (waits_mark l.fresh p q w).0; due = fits.due; trying = fits.trying };
-        places = λ kept. (kept, marked p);
-      })
-      (λ f. cond_both (has l.trying p) _ _ Out_ settle (λ f'. idles))
-    where
-      settle : has l.trying p ≡ true → Out_ (record { note = Some (Settle p); packets = []; live = record l { trying = without l.trying p } })
-      settle t = record {
-        taken = fits.trying p t;
-        fits = record {
-          fresh = fits.fresh;
-          waiting = λ q w. has_without-false k.pending p q (fits.waiting q w);
-          due = λ q h. has_without k.pending p q (fits.due q h) (λ same. clash (has l.trying p) t (apart p (subst (λ (n : ℕ). has l.due n ≡ true) same h)));
-          trying = λ q h. let w = has_without-true l.trying p q h in has_without k.pending p q (fits.trying q w.0) w.1;
-        };
-        places = λ kept. (record { offset = kept.offset; pending = left_out g k.pending p kept.pending }, tried p);
-      }
+  end_join p = grind (arith, cond_both, waits, taken, order_mark, waits_mark, marked, has, idles, without, has_without-false, has_without, clash, has_without-true, left_out)
 
   park : (p : ℕ) → Out_ (parks g site k l p)
-  park p =
-      cond_both (waits l.fresh p) _ _ Out_
-      (λ t. record {
-        taken = fits.waiting p t;
-        fits = record {
-          fresh = order_mark k.offset p l.fresh l.place fits.fresh;
-          waiting = λ q w. let m = waits_mark l.fresh p q w in has_push-false k.pending p q (fits.waiting q m.0) (λ same. m.1 (sym same));
-          due = λ q h. has_push-left k.pending p q (fits.due q h);
-          trying = λ q h. has_push-left k.pending p q (fits.trying q h);
-        };
-        places = λ kept. (record { offset = kept.offset; pending = pushed g k.pending p kept.pending (waits_start g l.fresh p live.fresh t) }, marked p);
-      })
-      (λ f.
-      cond_both (has l.trying p) _ _ Out_
-      (λ t. record {
-        taken = tt;
-        fits = record { fresh = fits.fresh; waiting = fits.waiting; due = fits.due; trying = λ q h. fits.trying q (has_without-true l.trying p q h).0 };
-        places = λ kept. (kept, tried p);
-      })
-      (λ f'. idles))
+  park p = grind (arith, cond_both, waits, taken, order_mark, waits_mark, has_push-false, has_push-left, pushed, waits_start, marked, has, has_without-true, tried)
 
   joined : (p : ℕ) (o : Outcome) → Out_ (dispatcher_joined g site k l p o)
-  joined p (NoQuery n) = park p
-  joined p Busy = idles
-  joined p _ = end_join p
+  joined p h = grind (arith, park, end_join)
 
   gets : (p : Packet) → Out_ (dispatcher_gets g site k l p)
   gets (packet.Joined p o) = joined p o
@@ -222,25 +126,16 @@ module _ (g : Setting) (site : ℕ) (k : DispatcherKept) (l : DispatcherLive) (l
 
   -- a turn of a node that is up
   pub turn_goes : (i : Input) → Out_ (dispatcher_turn g site k l i)
-  turn_goes Start = idles
-  turn_goes Own = own
-  turn_goes Tick = record { taken = tt; fits = fits; places = λ kept. (kept, live) }
-  turn_goes (Deliver from p) = gets p
+  turn_goes h = grind (arith, idles, own, gets)
 
 -- it comes up
 pub start_goes : (g : Setting) (k : DispatcherKept) → GoesOn g k (dispatcher_start k)
-start_goes g k = record {
-  taken = tt;
-  fits = record { fresh = omega arith; waiting = λ p w. clash false w refl; due = λ p h. h; trying = λ p h. clash false h refl };
-  places = λ kept. (kept, record { place = kept.offset; fresh = tt; due = kept.pending; trying = λ p h. clash false h refl });
-}
+start_goes g k = grind (arith, taken)
 
 -- ---- notes as the core has them
 
 taken_note : (k : DispatcherKept) (n : DispatchNote) → IsRowTaken k (Some (told n)) → takes_note k n ≡ true
-taken_note k (kind.Advance e) is = lt-ltb k.offset e is
-taken_note k (kind.Park p) is = ap not is
-taken_note k (kind.Settle p) is = is
+taken_note k h is = grind arith
 
 -- the disks take a note that is the row's
 pub taken_row : (k : DispatcherKept) (n : Option DispatchNote) (row : Option Note) → option_map told n ≡ row → IsRowTaken k row → takes_or_none k n ≡ true

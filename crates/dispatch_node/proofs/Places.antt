@@ -1,5 +1,5 @@
 -- Places of the log in what a dispatcher knows, as it changes.
-use Rattle.std.proofs.Common.{◌≡◌, ◌⊎◌, inr, ⊎_elim, ℕ, Bool, true, false, not, cond, ◌&&◌, ◌==◌, List, [], ◌∷◌, ◌++◌, refl, subst}
+use Rattle.std.proofs.Common.{◌≡◌, ◌⊎◌, inr, ⊎_elim, ℕ, true, false, not, ◌&&◌, ◌==◌, List, [], ◌∷◌, ◌++◌, refl, subst, arith}
 use Rattle.dispatch_node.proofs.Words.{and_parts, or_cases, eqb-true, Each, has, without, clash, has_push-or, has_without-true, IsBoundary, at_mem, Setting, Fresh, done_end, after_done, waits, mark, StartsAt, IsEntry}
 
 -- ---- the window
@@ -9,27 +9,15 @@ boundary_of g f is = inr (record { place = f.position; end_ = f.end_; click = f.
 
 pub end_boundary : (g : Setting) (e : ℕ) (fs : List Fresh) → IsBoundary g.clicks e → Each (IsEntry g) fs → IsBoundary g.clicks (done_end e fs)
 end_boundary g e [] b each = b
-end_boundary g e (f ∷ fs) b each = go f.done (end_boundary g f.end_ fs (boundary_of g f each.0) each.1)
-  where
-    go : (d : Bool) → IsBoundary g.clicks (done_end f.end_ fs) → IsBoundary g.clicks (cond d (done_end f.end_ fs) e)
-    go true later = later
-    go false later = b
+end_boundary g e (f ∷ fs) b each = grind (arith, boundary_of, end_boundary g f.end_ fs)
 
 pub after_each : (g : Setting) (fs : List Fresh) → Each (IsEntry g) fs → Each (IsEntry g) (after_done fs)
 after_each g [] each = tt
-after_each g (f ∷ fs) each = go f.done (after_each g fs each.1)
-  where
-    go : (d : Bool) → Each (IsEntry g) (after_done fs) → Each (IsEntry g) (cond d (after_done fs) (f ∷ fs))
-    go true later = later
-    go false later = each
+after_each g (f ∷ fs) each = grind (arith, after_each g fs each.1)
 
 pub mark_each : (g : Setting) (fs : List Fresh) (p : ℕ) → Each (IsEntry g) fs → Each (IsEntry g) (mark fs p)
 mark_each g [] p each = tt
-mark_each g (f ∷ fs) p each = (go (f.position == p), mark_each g fs p each.1)
-  where
-    go : (b : Bool) → IsEntry g (cond b (record f { done = true }) f)
-    go true = each.0
-    go false = each.0
+mark_each g (f ∷ fs) p each = grind (arith, mark_each g fs p each.1)
 
 -- where an entry waits a line starts
 pub waits_start : (g : Setting) (fs : List Fresh) (p : ℕ) → Each (IsEntry g) fs → waits fs p ≡ true → StartsAt g p

@@ -14,11 +14,8 @@ later x ls q p (inl m) = inl (m.0, inr m.1, m.2)
 later x ls q p (inr e) = inr e
 
 here_from : (ls : List ClickLine) (q p : ℕ) → Follow q ls → (p ≡ q) ⊎ ((l : ClickLine) × Mem l ls × (l.end_ ≡ p)) → IsHere ls q p
-here_from [] q p f (inl e) = inr e
-here_from [] q p f (inr m) = absurd m.1
-here_from (x ∷ ls) q p f (inl e) = inl (x, inl refl, f.0 ∙ sym e)
-here_from (x ∷ ls) q p f (inr (l, inl s, e)) = later x ls q p (here_from ls x.end_ p f.2 (inl (sym (ap (λ (y : ClickLine). y.end_) s ∙ e))))
-here_from (x ∷ ls) q p f (inr (l, inr m, e)) = later x ls q p (here_from ls x.end_ p f.2 (inr (l, m, e)))
+here_from [] q p f h = grind arith
+here_from (x ∷ ls) q p f h = grind (arith, here_from ls x.end_ p f.2)
 
 here : (g : Setting) (p : ℕ) → Follow 0 g.clicks → IsReadable g p → IsHere g.clicks 0 p
 here g p f (inl b) = here_from g.clicks 0 p f b

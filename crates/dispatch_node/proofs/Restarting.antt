@@ -1,17 +1,15 @@
 -- What a stop leaves of a dispatcher's disks, and its restart as an entry.
 use Rattle.std.proofs.Common.{◌≡◌, ◌⊎◌, inl, inr, ⊎_elim, ℕ, Bool, false, cond, not, List, Option, Some, None, refl, sym, ap, ◌∙◌, subst, arith}
 use Rattle.std.specs.Prelude.{option_map}
-use Rattle.dispatch_node.proofs.Words.{le-ltb, has_push-right, has_without-self, Stop, IsOpened, Fold, read_as, folds_to, Note, land, record_of, row, written, closes, DispatcherKept, land_dispatcher, DispatchNote, Advance, Park, Settle, landed, kept_as, takes_note, Holds, MayKeep, DispatcherState, SiteLeads, Parts, IsOpenAt, Doubts, StandsAt, StandsBy, dispatcher_rows, AreKeptPlaces, KeptOn, kept_or}
+use Rattle.dispatch_node.proofs.Words.{has_push-right, has_without-self, Stop, IsOpened, Fold, folds_to, Note, land, record_of, row, written, closes, DispatcherKept, land_dispatcher, DispatchNote, landed, kept_as, takes_note, Holds, MayKeep, DispatcherState, SiteLeads, Parts, IsOpenAt, Doubts, StandsAt, StandsBy, dispatcher_rows, AreKeptPlaces, KeptOn, kept_or}
 use Rattle.gate_journal.specs.Records as of
 use Rattle.offset_journal.specs.Offsets as offsets
 use Rattle.retry_log.specs.Pending as pending
-use Rattle.dispatch_node.proofs.Turning.{IsSame, stands_again}
+use Rattle.dispatch_node.proofs.Turning.{IsSame}
 
 -- a note that was written isn't taken again
 pub taken_once : (n : DispatchNote) (k : DispatcherKept) → takes_note (landed n k) n ≡ false
-taken_once (Advance e) k = le-ltb e e (omega arith)
-taken_once (Park p) k = ap not (has_push-right k.pending p)
-taken_once (Settle p) k = has_without-self k.pending p
+taken_once h k = grind (arith, has_push-right, has_without-self)
 
 -- what was read again is what the disk kept, or that with the note
 left_of : {V : Type 0} (format : Fold V) (image : List ℕ → Type 0) (old new now : V) → ((c : List ℕ) → image c → of.KeepsOr (folds_to format) old new c) → of.IsLeft (folds_to format) image now → (now ≡ old) ⊎ (now ≡ new)
@@ -19,12 +17,7 @@ left_of format image old new now images left =
     ⊎_elim (λ e. inl (cc (left.2, e))) (λ e. inr (cc (left.2, e))) (images left.0 left.1)
 
 left_kept : (n : DispatchNote) (k : DispatcherKept) (o : ℕ) (ps : List ℕ) → (o ≡ k.offset) ⊎ (o ≡ (landed n k).offset) → (ps ≡ k.pending) ⊎ (ps ≡ (landed n k).pending) → (kept_as o ps ≡ k) ⊎ (kept_as o ps ≡ landed n k)
-left_kept (Advance e) k o ps a b =
-    let same : ps ≡ k.pending = ⊎_elim (λ h. h) (λ h. h) b in
-    ⊎_elim (λ old. inl (λ i. kept_as (old i) (same i))) (λ new. inr (λ i. kept_as (new i) (same i))) a
-left_kept _ k o ps a b =
-    let same : o ≡ k.offset = ⊎_elim (λ h. h) (λ h. h) a in
-    ⊎_elim (λ old. inl (λ i. kept_as (same i) (old i))) (λ new. inr (λ i. kept_as (same i) (new i))) b
+left_kept h k o ps a b = grind arith
 
 pub found : (oi ri : List ℕ → Type 0) (n : DispatchNote) (k : DispatcherKept) (o : ℕ) (ps : List ℕ) → MayKeep oi ri n k → offsets.IsLeft oi o → pending.IsLeft ri ps → (kept_as o ps ≡ k) ⊎ (kept_as o ps ≡ landed n k)
 found oi ri n k o ps images a b = left_kept n k o ps (left_of offsets.offsets oi k.offset (landed n k).offset o images.offset a) (left_of pending.retries ri k.pending (landed n k).pending ps images.pending b)
@@ -33,10 +26,7 @@ found oi ri n k o ps images a b = left_kept n k o ps (left_of offsets.offsets oi
 
 -- what was left of what was left
 pub kept_again : (oi ri oj rj : List ℕ → Type 0) (n : DispatchNote) (k : DispatcherKept) → MayKeep oi ri n k → ((c : List ℕ) → oj c → IsOpened oi c) → ((c : List ℕ) → rj c → IsOpened ri c) → MayKeep oj rj n k
-kept_again oi ri oj rj n k images a b = record {
-  offset = λ c here. let left = a c here in let same = ap (read_as offsets.offsets) left.2 in ⊎_elim (λ e. inl (same ∙ e)) (λ e. inr (same ∙ e)) (images.offset left.0 left.1);
-  pending = λ c here. let left = b c here in let same = ap (read_as pending.retries) left.2 in ⊎_elim (λ e. inl (same ∙ e)) (λ e. inr (same ∙ e)) (images.pending left.0 left.1);
-}
+kept_again oi ri oj rj n k images a b = grind arith
 
 doubt_of : (p : Parts) (oi ri : List ℕ → Type 0) (s : DispatcherState) (x : DispatchNote × List ℕ) → p.in_doubt ≡ Some x → StandsAt p oi ri s → Doubts oi ri x.0 s.node.kept s.node.setting × IsOpenAt s x.0 x.1
 doubt_of p oi ri s x some at = subst (λ (d : Option (DispatchNote × List ℕ)). StandsBy d p oi ri s) some at.by
@@ -55,18 +45,13 @@ restart_moment p oi ri oj rj s x some at a b c here =
 -- where it is refused the note is in doubt still
 pub still_doubted : (p q : Parts) (oi ri oj rj : List ℕ → Type 0) (s : DispatcherState) (x : DispatchNote × List ℕ) → p.in_doubt ≡ Some x → q.in_doubt ≡ Some x → IsSame p q → StandsAt p oi ri s → ((c : List ℕ) → oj c → IsOpened oi c) → ((c : List ℕ) → rj c → IsOpened ri c)
     → StandsAt q oj rj s
-still_doubted p q oi ri oj rj s x some some' same at a b =
-    let by = doubt_of p oi ri s x some at in
-    let now : StandsBy (Some x) q oj rj s = (record { images = kept_again oi ri oj rj x.0 s.node.kept by.0.images a b; takes = by.0.takes; places = by.0.places }, by.1) in
-    stands_again p q oi ri oj rj s s.node at same refl at.places (subst (λ (d : Option (DispatchNote × List ℕ)). StandsBy d q oj rj s) (sym some') now)
+still_doubted p q oi ri oj rj s x some some' same at a b = grind (arith, doubt_of, kept_again)
 
 -- ---- the entry
 
 module _ (p q : Parts) (oi ri oj rj : List ℕ → Type 0) (s : DispatcherState) (x : DispatchNote × List ℕ) (n : ℕ) (some : p.in_doubt ≡ Some x) (none : q.in_doubt ≡ None) (same : IsSame p q) (at : StandsAt p oi ri s) where
   downs : (k : DispatcherKept) → AreKeptPlaces s.node.setting k → Holds q.offset_state q.retry_state q.offset q.pending k → StandsAt q oj rj (record { site = s.site; node = closes s.node k None })
-  downs k places holds =
-      let u : DispatcherState = record { site = s.site; node = closes s.node k None } in
-      stands_again p q oi ri oj rj s (closes s.node k None) at same refl places (subst (λ (d : Option (DispatchNote × List ℕ)). StandsBy d q oj rj u) (sym none) (holds, tt))
+  downs k places holds = grind (arith, closes)
 
   -- the entry tells the note where the disks take it no more
   pub restarts : Holds q.offset_state q.retry_state q.offset q.pending (kept_as q.offset q.pending) → offsets.IsLeft oi q.offset → pending.IsLeft ri q.pending → (takes : Bool) → takes ≡ takes_note (kept_as q.offset q.pending) x.0

@@ -1,7 +1,7 @@
 -- Inputs and rows of a dispatcher over its disks.
-use Rattle.std.proofs.Common.{◌≡◌, ℕ, true, List, Option, Some, None, refl, sym, ap, subst}
+use Rattle.std.proofs.Common.{◌≡◌, ℕ, true, List, Option, Some, None, refl, sym, ap, subst, arith}
 use Rattle.std.specs.Prelude.{option_map}
-use Rattle.dispatch_node.proofs.Words.{lines_follow, Bytes, Input, Start, Own, Tick, Deliver, Setting, Note, Out, land, Reads, MayTake, row_of, DispatcherKept, DispatcherLive, land_dispatcher, dispatcher_turn, told, out_of, DispatchCore, DispatchNote, takes_or_none, IsRowTaken, IsAsked, IsRecorded, Knows, landed_by, dispatcher_rows, IsLogOf}
+use Rattle.dispatch_node.proofs.Words.{lines_follow, Bytes, Input, Start, Own, Tick, Setting, Note, Out, land, Reads, MayTake, row_of, DispatcherKept, DispatcherLive, land_dispatcher, told, out_of, DispatchCore, DispatchNote, takes_or_none, IsRowTaken, IsAsked, IsRecorded, Knows, landed_by, dispatcher_rows, IsLogOf}
 use Rattle.air_bus.specs.declared.entry.Input.TheVariants as bytes
 use Rattle.dispatch_node.proofs.Following.{GoesOn, turn_goes, start_goes, taken_row}
 
@@ -20,12 +20,7 @@ asked_at g d (Some l) (bytes.Packet from p) i reads may = subst (λ (x : Input).
 
 -- the row of an input, at what the core goes by
 pub row_is : (g : Setting) (site : ℕ) (k : DispatcherKept) (live : Option DispatcherLive) (l : DispatcherLive) (i : Input) → IsAsked live i l → out_of g site k l i ≡ row_of (dispatcher_rows site) g k live i
-row_is g site k None l Start is = refl
-row_is g site k None l _ is = absurd is
-row_is g site k (Some m) l Start is = absurd is
-row_is g site k (Some m) l Own is = ap (λ (x : DispatcherLive). dispatcher_turn g site k x Own) (sym is)
-row_is g site k (Some m) l Tick is = ap (λ (x : DispatcherLive). dispatcher_turn g site k x Tick) (sym is)
-row_is g site k (Some m) l (Deliver from p) is = ap (λ (x : DispatcherLive). dispatcher_turn g site k x (Deliver from p)) (sym is)
+row_is g site k h l e is = grind arith
 
 -- the disks take the row's note, and what is known then fits what they keep then
 pub row_goes : (g : Setting) (site : ℕ) (log : List ℕ) (core : DispatchCore) (k : DispatcherKept) (live : Option DispatcherLive) (l : DispatcherLive) (i : Input) → IsLogOf log g → IsAsked live i l → Knows g core k live → GoesOn g k (row_of (dispatcher_rows site) g k live i)

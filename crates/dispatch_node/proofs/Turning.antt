@@ -1,5 +1,5 @@
 -- A turn of a dispatcher over its disks, and its restart, as the states' entries.
-use Rattle.std.proofs.Common.{◌≡◌, ◌⊎◌, inl, inr, ⊎_elim, ℕ, ◌≤◌, true, List, [], length, Option, Some, None, refl, sym, ap, ◌∙◌, subst}
+use Rattle.std.proofs.Common.{◌≡◌, ◌⊎◌, inl, inr, ⊎_elim, ℕ, ◌≤◌, true, List, [], length, Option, Some, None, refl, sym, ap, ◌∙◌, subst, arith}
 use Rattle.std.specs.Prelude.{is_some, option_map}
 use Rattle.dispatch_node.proofs.Words.{ends_idle, ends_done, MayTake, live_of, Bytes, Begin, End, Input, Setting, Note, Out, land, record_of, AreSpelled, Reads, IsJunk, State, Leads, row, written, closes, DispatcherKept, DispatcherLive, land_dispatcher, told, note_of, IsTurn, Stands, out_of, DispatchCore, Turn, DispatchNote, kept_as, takes_note, Holds, MayKeep, DispatcherState, SiteLeads, Knows, IsAsked, Parts, StandsAt, StandsBy, IsRecorded, IsTakenBy, landed_by, dispatcher_rows, IsLogOf, AreKeptPlaces, KeptOn, OnDisks, kept_or}
 use Rattle.offset_journal.specs.Offsets as offsets
@@ -16,14 +16,7 @@ pub record IsSame (p q : Parts) : Type 0 where
 -- such a node stands at a state of this site and setting, if it holds and knows what the state says
 pub stands_again : (p q : Parts) (oi ri oj rj : List ℕ → Type 0) (s : DispatcherState) (node : State DispatcherKept DispatcherLive) → StandsAt p oi ri s → IsSame p q → node.setting ≡ s.node.setting → AreKeptPlaces s.node.setting node.kept
     → StandsBy q.in_doubt q oj rj (record { site = s.site; node = node }) → StandsAt q oj rj (record { site = s.site; node = node })
-stands_again p q oi ri oj rj s node at same setting places by = record {
-  site = same.site ∙ at.site;
-  own_core = same.own_core ∙ at.own_core ∙ sym same.site;
-  setting = ap (λ (g : Setting). g.config) setting ∙ at.setting ∙ sym same.config;
-  log = subst (λ (g : Setting). IsLogOf q.log g) (sym setting) (subst (λ (l : List ℕ). IsLogOf l s.node.setting) (sym same.log) at.log);
-  places = subst (λ (g : Setting). AreKeptPlaces g node.kept) (sym setting) places;
-  by = by;
-}
+stands_again p q oi ri oj rj s node at same setting places by = grind arith
 
 -- with nothing in doubt
 pub quiet : (p : Parts) (oi ri : List ℕ → Type 0) (s : DispatcherState) → p.in_doubt ≡ None → StandsAt p oi ri s → Holds p.offset_state p.retry_state p.offset p.pending s.node.kept × Knows s.node.setting p.core s.node.kept s.node.live
@@ -123,16 +116,7 @@ ends p q oi ri oj rj s t n site b i l core turn w said ps ready sent at led same
 -- the turn isn't done, and nothing but room has changed
 pub stays_open : (p q : Parts) (oi ri oj rj : List ℕ → Type 0) (s t : DispatcherState) (n : ℕ) (b : Bytes) → StandsAt p oi ri s → SiteLeads s (Begin n b) t → IsSame p q → p.in_doubt ≡ None → q.in_doubt ≡ None
     → ((live : DispatcherLive) → Stands s.node.setting p.core s.node.kept live → Stands s.node.setting q.core s.node.kept live) → Holds q.offset_state q.retry_state q.offset q.pending s.node.kept → StandsAt q oj rj t
-stays_open p q oi ri oj rj s t n b at led same none none' stands holds =
-    let g = s.node.setting in
-    let k = s.node.kept in
-    let u = opened s b in
-    subst (λ (x : DispatcherState). StandsAt q oj rj x) (opened_is s t n b led)
-    (stands_again p q oi ri oj rj s u.node at same refl at.places (by_none q oj rj u none' (holds, go s.node.live (quiet p oi ri s none at).1)))
-  where
-    go : (live : Option DispatcherLive) → Knows s.node.setting p.core s.node.kept live → Knows s.node.setting q.core s.node.kept live
-    go None knows = tt
-    go (Some m) knows = (stands m knows.0, knows.1, knows.2)
+stays_open p q oi ri oj rj s t n b at led same none none' stands holds = grind (arith, opened_is, stands_again, by_none)
 
 -- the turn was stopped, and its note is in doubt
 pub doubted : (p q : Parts) (oi ri oj rj : List ℕ → Type 0) (s t : DispatcherState) (n site : ℕ) (b : Bytes) (i : Input) (l : DispatcherLive) (core : DispatchCore) (turn : Turn) (x : DispatchNote × List ℕ)
@@ -143,11 +127,7 @@ doubted p q oi ri oj rj s t n site b i l core turn x at led same none some d tak
     let u = opened s b in
     let note = row_note s site b i l core turn (Some x) d in
     let places = ((row_goes g s.site p.log p.core k s.node.live l i at.log d.asked (quiet p oi ri s none at).1).places at.places).0 in
-    let by : StandsBy (Some x) q oj rj u = (
-      record { images = images; takes = takes; places = subst (λ (m : Option Note). AreKeptPlaces g (land land_dispatcher m k)) (sym note.note_is) places },
-      record { begun = b; opened = refl; input = i; reads = d.reads; noted = sym note.note_is; bytes_are = (let bytes : Some x.1 ≡ Some (record_of (told x.0)) = note.bytes ∙ ap (option_map record_of) (sym note.note_is) in cc) },
-    ) in
-    subst (λ (y : DispatcherState). StandsAt q oj rj y) (opened_is s t n b led) (stands_again p q oi ri oj rj s u.node at same refl at.places (subst (λ (o : Option (DispatchNote × List ℕ)). StandsBy o q oj rj u) (sym some) by))
+    grind (arith, land, land_dispatcher, record_of, told, opened_is)
 
 -- ---- what a written note makes
 
@@ -163,12 +143,7 @@ taken_at w x k k' e same takes = subst (λ (m : DispatcherKept). IsTakenBy m (So
 
 pub images_at : (w : Option (DispatchNote × List ℕ)) (x : DispatchNote × List ℕ) (o : ℕ) (ps : List ℕ) (oj rj : List ℕ → Type 0) (k : DispatcherKept) → w ≡ Some x → kept_as o ps ≡ k
     → ((c : List ℕ) → oj c → offsets.KeepsOr o (landed_by w (kept_as o ps)).offset c) → ((c : List ℕ) → rj c → pending.KeepsOr ps (landed_by w (kept_as o ps)).pending c) → MayKeep oj rj x.0 k
-images_at w x o ps oj rj k e same a b =
-    subst (λ (m : DispatcherKept). MayKeep oj rj x.0 m) same
-    (record {
-      offset = λ c here. subst (λ (v : Option (DispatchNote × List ℕ)). offsets.KeepsOr o (landed_by v (kept_as o ps)).offset c) e (a c here);
-      pending = λ c here. subst (λ (v : Option (DispatchNote × List ℕ)). pending.KeepsOr ps (landed_by v (kept_as o ps)).pending c) e (b c here);
-    })
+images_at w x o ps oj rj k e same a b = grind (arith, landed_by)
 
 -- at a moment before the append the disk keeps what it kept; from then on that, or that with the note
 pub part_at : {V B : Type 0} (keeps : V → List ℕ → Type 0) (part : DispatcherKept → V) (w : Option (DispatchNote × List ℕ)) (old mid k : DispatcherKept) (c : List ℕ) → old ≡ k → mid ≡ old → (B → keeps (part old) c) → B ⊎ (keeps (part mid) c ⊎ keeps (part (landed_by w mid)) c)

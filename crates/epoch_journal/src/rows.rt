@@ -3,6 +3,7 @@ ghost use Rattle.std.specs.Prelude.{◌≡◌, [], ◌∷◌, Ok, Err};
 ghost use Rattle.gate_journal.specs.Fold.{kept_by};
 ghost use Rattle.epoch_journal.specs.Epochs.{epoch_record, epoch_of, epochs};
 
+#[tactic(auto, unfolding(gate_journal::specs::Gate::reading))]
 /// What files keep.
 pub fn files()
     ensures none { epoch_of (0 ∷ []) ≡ Ok 0 }

@@ -45,6 +45,7 @@ pub fn read_disk<D: Disk>(alloc: Global, disk: &mut D) -> Result<Vec<u8>, Journa
     Ok(bytes)
 }
 
+#[tactic(auto, unfolding(crate::specs::Gate::reading))]
 /// The records on a disk and the place of their closed gate, once they are all on it. The first call is a sync, so that no
 /// later stop can take back what is read. A fresh disk gets a closed gate.
 pub fn open_disk<D: Disk>(alloc: Global, disk: &mut D) -> Result<(Payloads, u64), JournalFault>

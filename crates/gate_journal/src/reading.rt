@@ -35,8 +35,8 @@ impl From<AllocError> for JournalFault {
 /// The payloads of a file that isn't fresh, and the place of its closed gate.
 pub fn read_records(bytes: Vec<u8>) -> Result<(Payloads, u64), JournalFault>
     requires { 0 < length bytes.items }
-    ensures ok { IfOk result (λ r. (reading 0 0 bytes.items ≡ Ok (r.0, r.1)) × (r.1 < length bytes.items) × (r.1 ≡ spans r.0)) }
-    ensures err { IfErr result (λ e. FailsAs (reading 0 0 bytes.items) e) }
+    ensures ok { IfOk result (λ r. (reading bytes.items ≡ Ok (r.0, r.1)) × (r.1 < length bytes.items) × (r.1 ≡ spans r.0)) }
+    ensures err { IfErr result (λ e. FailsAs (reading bytes.items) e) }
 {
     let mut gate = 0;
     for payload in (Walk { rest: &bytes }) {

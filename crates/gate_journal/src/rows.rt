@@ -2,6 +2,7 @@
 ghost use Rattle.std.specs.Prelude.{◌≡◌, [], ◌∷◌, Ok, Err};
 ghost use Rattle.gate_journal.specs.Gate.{framed, gate_rule, payload_of};
 
+#[tactic(auto, unfolding(crate::specs::Gate::reading))]
 /// What files stand for.
 pub fn files()
     ensures fresh { gate_rule (165 ∷ []) ≡ Ok [] }

@@ -1,5 +1,5 @@
 -- What a joiner is given, as the core takes it.
-use Rattle.std.proofs.Common.{◌≡◌, ℕ, Bool, true, false, [], Option, Some, None, subst}
+use Rattle.std.proofs.Common.{◌≡◌, ℕ, Bool, true, false, [], Option, Some, None, subst, arith}
 use Rattle.log_records.specs.declared.records.ClickRec.{ClickRec as Click}
 use Rattle.turn_defs.specs.declared.packet.Packet.TheVariants as packet
 use Rattle.turn_defs.specs.declared.node.Input.{Input}
@@ -28,11 +28,7 @@ module _ (core : JoinerCore) (g : Setting) (n : ℕ) (k : JoinerKept) where
 
   -- the core takes what is asked
   pub ready_of : (l : JoinerLive) (a : JoinerInput) (i : Input) → Serves core g n → GoesOn core g n k l i → Carries g k l a i → IsReady core g n k l a
-  ready_of l (asked.Start e) i serves goes carries = serves
-  ready_of l asked.Own i serves goes carries = goes_on l i Own carries goes
-  ready_of l asked.Tick i serves goes carries = goes_on l i Tick carries goes
-  ready_of l (asked.Join p c looked) i serves goes carries = goes_on l i (Deliver carries.0.0 (packet.Join p c)) carries.0.1 goes
-  ready_of l (asked.Packet from p) i serves goes carries = goes_on l i (Deliver from p) carries.0 goes
+  ready_of l h i serves goes carries = grind arith
 
   up_by : (up : Bool) (l : JoinerLive) → Knows up core g n k (Some l) → Stands core g n k l
   up_by true l knows = knows
@@ -46,10 +42,7 @@ module _ (core : JoinerCore) (g : Setting) (n : ℕ) (k : JoinerKept) where
   pub decided : (up : Bool) (live : Option JoinerLive) (i : Input) (a : JoinerInput) (core' : JoinerCore) (t : Turn) → Serves core g n → Knows up core g n k live → MayGet live i → ((l : JoinerLive) → GoesOn core g n k l i → Carries g k l a i)
       → ((l : JoinerLive) → IsReady core g n k l a → Carries g k l a i → Answers core' g n k (row g n k l i) t) → Answers core' g n k (joiner_row g n k live i) t
   decided up None Start a core' t serves knows may carries answers = let is = carries none_known tt in answers none_known (ready_of none_known a Start serves tt is) is
-  decided up None Own a core' t serves knows may carries answers = absurd may
-  decided up None Tick a core' t serves knows may carries answers = absurd may
-  decided up None (Deliver from p) a core' t serves knows may carries answers = absurd may
-  decided up (Some l) Start a core' t serves knows may carries answers = absurd may
   decided up (Some l) Own a core' t serves knows may carries answers = let stands = up_by up l knows in let is = carries l stands in answers l (ready_of l a Own serves stands is) is
   decided up (Some l) Tick a core' t serves knows may carries answers = let stands = up_by up l knows in let is = carries l stands in answers l (ready_of l a Tick serves stands is) is
   decided up (Some l) (Deliver from p) a core' t serves knows may carries answers = let stands = up_by up l knows in let is = carries l stands in answers l (ready_of l a (Deliver from p) serves stands is) is
+  decided up _ _ a core' t serves knows may carries answers = absurd may

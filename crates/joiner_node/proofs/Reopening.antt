@@ -1,5 +1,5 @@
 -- What a joiner's disks hold after a stop.
-use Rattle.std.proofs.Common.{◌≡◌, ◌⊎◌, inl, inr, ⊎_elim, ℕ, ◌+◌, Bool, true, false, List, [], ◌∷◌, length, map, Option, Some, None, refl, sym, ap, ◌∙◌, subst, arith, length-append}
+use Rattle.std.proofs.Common.{◌≡◌, ◌⊎◌, inl, inr, ⊎_elim, ℕ, ◌+◌, Bool, true, false, List, [], ◌∷◌, length, map, Option, Some, None, refl, sym, ap, ◌∙◌, arith, length-append}
 use Rattle.std.specs.Prelude.{All, IsTrue, Result, Ok, if◌then◌else◌}
 use Rattle.std.proofs.lemmas.Bool.Decides.{nat_tests}
 use Rattle.std.proofs.lemmas.List.Elements.{All-head, All-tail}
@@ -66,9 +66,6 @@ pairs_left apart k m image ps or (c, here, keeps) = ⊎_elim (λ old. inl (one_l
 nothing_more : (e n : ℕ) (d : Doubt) → e ≡ d.epoch → n ≡ d.pairs → has_more e n d ≡ false
 nothing_more e n d same count = grind (arith, nat_tests)
 
-later_epoch : (e n : ℕ) (d : Doubt) → (e ≡ d.epoch → ⊥) → has_more e n d ≡ true
-later_epoch e n d more = grind (arith, nat_tests)
-
 longer_list : (e n : ℕ) (d : Doubt) → (n ≡ d.pairs → ⊥) → has_more e n d ≡ true
 longer_list e n d more = grind (arith, nat_tests)
 
@@ -86,11 +83,7 @@ old_reads e written ps d k is epoch count e_is ps_are = record { epoch_is = e_is
 
 pub reads_either : (e written : ℕ) (ps : List PairRec) (d : Doubt) (n : JoinerNote) (k : JoinerKept) → IsCount written ps → InDoubt d n k → (e ≡ k.epoch) ⊎ (e ≡ (with_note (Some n) k).epoch) → (ps ≡ k.pairs) ⊎ (ps ≡ (with_note (Some n) k).pairs)
     → Reads e written ps d false k ⊎ Reads e written ps d true (with_note (Some n) k)
-reads_either e written ps d (notes.Epoch x) k is doubt epoch pair =
-    let same : ps ≡ k.pairs = ⊎_elim (λ h. h) (λ h. h) pair in
-    ⊎_elim (λ old. inl (old_reads e written ps d k is doubt.epoch_is doubt.count_is old same))
-    (λ new. inr (record { epoch_is = new; pairs_are = same; told = later_epoch e written d (λ e_is. omega (arith, e_is, new, doubt.epoch_is, doubt.next)) }))
-    epoch
+reads_either e written ps d (notes.Epoch x) k is doubt epoch pair = grind (arith, old_reads)
 reads_either e written ps d (notes.Pair p) k is doubt epoch pair =
     let same : e ≡ k.epoch = ⊎_elim (λ h. h) (λ h. h) epoch in
     ⊎_elim (λ old. inl (old_reads e written ps d k is doubt.epoch_is doubt.count_is same old))
@@ -101,14 +94,7 @@ reads_either e written ps d (notes.Pair p) k is doubt epoch pair =
 
 -- both journals are read, and each image has what they have
 pub holds_read : (e written : ℕ) (ps : List PairRec) (epoch_image pairs_image : List ℕ → Type 0) (k : JoinerKept) → IsCount written ps → e ≡ k.epoch → ps ≡ k.pairs → ((c : List ℕ) → epoch_image c → epochs.Keeps e c) → AreKept pairs_image ps → Holds e written epoch_image pairs_image k
-holds_read e written ps epoch_image pairs_image k is epoch_is pairs_are epoch_durable kept = record {
-  epoch_is = epoch_is;
-  count_is = counts written ps k is pairs_are;
-  images = record {
-    epochs_or = λ c here. inl (subst (λ (x : ℕ). epochs.Keeps x c) epoch_is (epoch_durable c here));
-    pairs_or = λ c here. inl (subst (λ (xs : List PairRec). pairs.Keeps xs c) pairs_are (kept c here));
-  };
-}
+holds_read e written ps epoch_image pairs_image k is epoch_is pairs_are epoch_durable kept = grind arith
 
 module _ (e written : ℕ) (ps : List PairRec) (d : Doubt) (n : JoinerNote) (k : JoinerKept) (epoch_image pairs_image : List ℕ → Type 0) (told : Bool) (is : IsCount written ps) (doubt : InDoubt d n k) (epoch : (e ≡ k.epoch) ⊎ (e ≡ (with_note (Some n) k).epoch)) (pair : (ps ≡ k.pairs) ⊎ (ps ≡ (with_note (Some n) k).pairs)) (more : told ≡ has_more e written d)
     (epoch_durable : (c : List ℕ) → epoch_image c → epochs.Keeps e c) (kept : AreKept pairs_image ps) where

@@ -34,13 +34,9 @@ spends s b i kept last reads same (start, is, told) =
 -- and nothing else is
 pub starts : (s : JoinerState) (b : Bytes) (i : Input) (epoch : ℕ) → Reads s.node.setting b i → spends_of s b ≡ Some epoch → (i ≡ Start) × (s.node.kept.epoch ≡ LAST_EPOCH)
 starts s bytes.Start i epoch reads is = (reads, last_of s.node.kept.epoch epoch is)
-starts s bytes.Own i epoch reads is = absurd (cc is)
-starts s bytes.Tick i epoch reads is = absurd (cc is)
-starts s (bytes.Packet from p) i epoch reads is = absurd (cc is)
+starts s _ i epoch reads is = absurd (cc is)
 
 -- what no packet spells is no Start
 pub spent_junk : (s : JoinerState) (b : Bytes) (epoch : ℕ) → IsJunk s.node.setting b → spends_of s b ≡ Some epoch → ⊥
 spent_junk s bytes.Start epoch junk is = junk Start refl
-spent_junk s bytes.Own epoch junk is = absurd (cc is)
-spent_junk s bytes.Tick epoch junk is = absurd (cc is)
-spent_junk s (bytes.Packet from p) epoch junk is = absurd (cc is)
+spent_junk s _ epoch junk is = absurd (cc is)

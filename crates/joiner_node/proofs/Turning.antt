@@ -1,24 +1,16 @@
 -- A turn of a joiner over its disks, and its restart, as the states' entries.
-use Rattle.std.proofs.Common.{◌≡◌, inl, inr, ⊎_elim, ℕ, suc, ◌-◌, ◌^◌, ◌≤◌, nat_lt, Bool, true, false, ◌&&◌, List, [], length, Option, Some, None, refl, sym, ap, ◌∙◌, subst, arith}
-use Rattle.std.specs.Prelude.{is_some, option_map, find, if◌then◌else◌, IsTrue, Result, Ok, Err, IfOk, IfErr, OnOk, OnErr, IsErrAnd, ⊤}
-use Rattle.log_records.specs.declared.records.QueryRec.{QueryRec as Query}
-use Rattle.log_records.specs.declared.records.ClickRec.{ClickRec as Click}
-use Rattle.log_records.specs.Log.{first}
-use Rattle.registry_state.specs.declared.Insert.{Insert}
-use Rattle.registry_state.specs.declared.Answer.{Answer}
-use Rattle.registry_state.specs.declared.Answer.TheVariants.{Granted, Duplicate, TooOld}
+use Rattle.std.proofs.Common.{◌≡◌, inl, inr, ⊎_elim, ℕ, suc, ◌≤◌, Bool, true, false, ◌&&◌, List, [], length, Option, Some, None, refl, sym, ap, ◌∙◌, subst, arith}
+use Rattle.std.specs.Prelude.{is_some, option_map, IsTrue, Result, Ok, Err, IfOk, IfErr, OnOk, OnErr, IsErrAnd, ⊤}
 use Rattle.air_bus.specs.declared.entry.Input.{Input as Bytes}
 use Rattle.air_bus.specs.declared.entry.Entry.TheVariants.{Begin, End, Stop}
-use Rattle.turn_defs.specs.declared.packet.Packet.{Packet}
 use Rattle.turn_defs.specs.declared.packet.Packet.TheVariants as packet
 use Rattle.turn_defs.specs.declared.node.Input.{Input}
-use Rattle.turn_defs.specs.declared.node.Input.TheVariants.{Start, Own, Tick, Deliver}
 use Rattle.turn_defs.specs.Setting.{Setting}
 use Rattle.turn_defs.specs.Turns.{Note, Epoch, Out, land}
 use Rattle.site_node.specs.Bytes.{record_of, AreSpelled, Reads, IsJunk}
 use Rattle.site_node.proofs.Turns.{ends_done, ends_idle, none_of}
-use Rattle.site_node.specs.States.{State, Leads, row, written, closes, opens}
-use Rattle.turn_defs.specs.Joiner.{JoinerKept, JoinerLive, Flight, land_joiner, in_flight, is_for, looks, joins, replied, joiner_gets}
+use Rattle.site_node.specs.States.{Leads, row, written, closes, opens}
+use Rattle.turn_defs.specs.Joiner.{JoinerKept, JoinerLive, land_joiner}
 use Rattle.joiner_core.specs.Standing.{Serves, Stands, IsSame, Answers, note_of}
 use Rattle.joiner_core.specs.declared.turn.Turn.{Turn}
 use Rattle.joiner_core.specs.declared.turn.JoinerNote.{JoinerNote}
@@ -43,19 +35,11 @@ quiet (Some d) p epoch_image pairs_image s none by = absurd (cc none)
 -- it stands at each state of this number and setting, these records and this knowledge
 pub stands_none : (p : Parts) (epoch_image pairs_image : List ℕ → Type 0) (s : JoinerState) → p.in_doubt ≡ None → s.node.setting.config ≡ p.config → s.number ≡ p.number → Serves p.core s.node.setting s.number → HasRead p.log p.place s.node.setting.queries
     → Holds p.epoch p.written epoch_image pairs_image s.node.kept → Knows p.up p.core s.node.setting s.number s.node.kept s.node.live → StandsAt p epoch_image pairs_image s
-stands_none p epoch_image pairs_image s none of_g number serves reads holds knows = record {
-  setting = of_g;
-  number_is = number;
-  serves = serves;
-  reads = reads;
-  by = subst (λ (d : Option Doubt). StandsBy d p epoch_image pairs_image s) (sym none) (holds, knows);
-}
+stands_none p epoch_image pairs_image s none of_g number serves reads holds knows = grind arith
 
 -- an entry led to this state
 pub led_to : (s t : JoinerState) (n : ℕ) (b : Bytes) → LeadsTo s (Begin n b) t → record { number = s.number; node = opens s.node b } ≡ t
-led_to s t n b led =
-    let of : (x : ℕ) (y : State JoinerKept JoinerLive) → JoinerState = λ x y. record { number = x; node = y } in
-    ap (λ (x : ℕ). of x (opens s.node b)) (sym led.number) ∙ ap (λ (y : State JoinerKept JoinerLive). of t.number y) (sym led.leads.2)
+led_to s t n b led = grind arith
 
 -- what no packet spells changes nothing
 pub idles : (p : Parts) (epoch_image pairs_image : List ℕ → Type 0) (s t : JoinerState) (n : ℕ) (b : Bytes) (ps : List (ℕ × List ℕ)) (sent : ℕ) → p.in_doubt ≡ None → StandsAt p epoch_image pairs_image s
@@ -95,9 +79,7 @@ ends p epoch_image pairs_image core s t n b i ready said ps sent led reads row s
 
 by_doubt : (d : Option Doubt) (o : Option JoinerNote) (p : Parts) (epoch_image pairs_image : List ℕ → Type 0) (s : JoinerState) (b : Bytes) (i : Input) → Reads s.node.setting b i → option_map note_of o ≡ (row_at s i).note → AreInDoubt d o s.node.kept
     → MayHave s.node.kept (with_note o s.node.kept) epoch_image pairs_image → StandsBy d p epoch_image pairs_image (record { number = s.number; node = opens s.node b })
-by_doubt None o p epoch_image pairs_image s b i reads noted are images = absurd are
-by_doubt (Some d) None p epoch_image pairs_image s b i reads noted are images = absurd are
-by_doubt (Some d) (Some x) p epoch_image pairs_image s b i reads noted are images = record { begun = b; opened = refl; input = i; reads = reads; note = x; noted = sym noted; in_doubt = are; images = images }
+by_doubt h o p epoch_image pairs_image s b i reads noted are images = grind arith
 
 -- a turn that was stopped is open still, and its note may have landed
 pub stays_open : (p : Parts) (epoch_image pairs_image : List ℕ → Type 0) (s t : JoinerState) (n : ℕ) (b : Bytes) (i : Input) (o : Option JoinerNote) → LeadsTo s (Begin n b) t → Reads s.node.setting b i → option_map note_of o ≡ (row_at s i).note
@@ -130,11 +112,7 @@ serves_of false core g n k l knows = absurd knows
 
 -- room was made
 pub holds_within : (epoch epoch' written written' : ℕ) (ei pi ei' pi' : List ℕ → Type 0) (k : JoinerKept) → epoch' ≡ epoch → written' ≡ written → ((c : List ℕ) → ei' c → ei c) → ((c : List ℕ) → pi' c → pi c) → Holds epoch written ei pi k → Holds epoch' written' ei' pi' k
-holds_within epoch epoch' written written' ei pi ei' pi' k e p ein pin holds = record {
-  epoch_is = e ∙ holds.epoch_is;
-  count_is = p ∙ holds.count_is;
-  images = record { epochs_or = λ c here. holds.images.epochs_or c (ein c here); pairs_or = λ c here. holds.images.pairs_or c (pin c here) };
-}
+holds_within epoch epoch' written written' ei pi ei' pi' k e p ein pin holds = grind arith
 
 -- a row's note is of the next epoch, or a pair
 abbrev IsNextNote : Option Note → JoinerKept → Type 0
@@ -142,47 +120,16 @@ IsNextNote (Some (Epoch e)) k = e ≡ suc k.epoch
 IsNextNote _ k = ⊤
 
 next_by : (k : JoinerKept) (o : Option JoinerNote) (out : Option Note) → option_map note_of o ≡ out → IsNextNote out k → IsNext o k
-next_by k None out e is = tt
-next_by k (Some (notes.Epoch x)) out e is = subst (λ (n : Option Note). IsNextNote n k) (sym e) is
-next_by k (Some (notes.Pair p)) out e is = tt
-
-note_if : (k : JoinerKept) (b : Bool) (x y : Out JoinerLive) → IsNextNote x.note k → IsNextNote y.note k → IsNextNote (if b then x else y).note k
-note_if k true x y this other = this
-note_if k false x y this other = other
-
-module _ (g : Setting) (n : ℕ) (k : JoinerKept) (l : JoinerLive) where
-  looks_next : (p : ℕ) (c : Click) (o : Option Query) → IsNextNote (looks g n k l p c o).note k
-  looks_next p c None = tt
-  looks_next p c (Some q) = note_if k (nat_lt l.number (2 ^ 64 - 1)) _ _ tt tt
-
-  joins_next : (p : ℕ) (c : Click) → IsNextNote (joins g n k l p c).note k
-  joins_next p c = note_if k (in_flight l.flight c.id) _ _ tt (note_if k (nat_lt (length l.flight) 32) _ _ (looks_next p c (first g.queries c.query)) tt)
-
-  replied_next : (x : Insert) (a : Answer) (o : Option Flight) → IsNextNote (replied g n k l x a o).note k
-  replied_next x a None = tt
-  replied_next x Granted (Some f) = tt
-  replied_next x (Duplicate h) (Some f) = tt
-  replied_next x (TooOld b) (Some f) = tt
-
-  gets_next : (p : Packet) → IsNextNote (joiner_gets g n k l p).note k
-  gets_next (packet.Join p c) = joins_next p c
-  gets_next (packet.Reply x a) = replied_next x a (find (is_for x) l.flight)
-  gets_next _ = tt
+next_by k h out e is = grind arith
 
 row_next : (g : Setting) (n : ℕ) (k : JoinerKept) (live : Option JoinerLive) (i : Input) → IsNextNote (joiner_row g n k live i).note k
-row_next g n k None i = refl
-row_next g n k (Some l) Start = tt
-row_next g n k (Some l) Own = tt
-row_next g n k (Some l) Tick = tt
-row_next g n k (Some l) (Deliver from p) = gets_next g n k l p
+row_next g n k h i = grind arith
 
 pub next_of : (g : Setting) (n : ℕ) (k : JoinerKept) (live : Option JoinerLive) (i : Input) (o : Option JoinerNote) → option_map note_of o ≡ (joiner_row g n k live i).note → IsNext o k
 next_of g n k live i o e = next_by k o (joiner_row g n k live i).note e (row_next g n k live i)
 
 above_by : (k : JoinerKept) (kept : ℕ) (o : Option JoinerNote) → kept ≡ k.epoch → IsNext o k → IsAbove o kept
-above_by k kept None same next = tt
-above_by k kept (Some (notes.Epoch x)) same next = omega (arith, same, next)
-above_by k kept (Some (notes.Pair p)) same next = tt
+above_by k kept h same next = grind arith
 
 pub above_of : (g : Setting) (n : ℕ) (k : JoinerKept) (live : Option JoinerLive) (i : Input) (kept : ℕ) (o : Option JoinerNote) → kept ≡ k.epoch → option_map note_of o ≡ (joiner_row g n k live i).note → IsAbove o kept
 above_of g n k live i kept o same e = above_by k kept o same (next_of g n k live i o e)
@@ -190,14 +137,7 @@ above_of g n k live i kept o same e = above_by k kept o same (next_of g n k live
 -- the note is taken out of the turn
 pub row_is : (core : JoinerCore) (g : Setting) (n : ℕ) (k : JoinerKept) (out : Out JoinerLive) (turn : Turn) (taken : Option JoinerNote) (sent : List (ℕ × List ℕ)) (writes : Option Record) → Answers core g n k out turn → AreSpelled turn.packets.items sent → writes ≡ recorded_as turn.note
     → IsRow core g n k out (record { turn = record { note = taken; packets = turn.packets; change = turn.change }; packets = sent; writes = writes })
-row_is core g n k out turn taken sent writes answers spelled is = record {
-  note = turn.note;
-  is_note = answers.note;
-  is_record = is;
-  sent = answers.packets;
-  spelled = spelled;
-  next = record { serves = answers.next.serves; epoch = answers.next.epoch ∙ ap (λ (o : Option Note). (land land_joiner o k).epoch) (sym answers.note); live = answers.next.live };
-}
+row_is core g n k out turn taken sent writes answers spelled is = grind arith
 
 pub knows_up : (up : Bool) (core : JoinerCore) (g : Setting) (n : ℕ) (k : JoinerKept) (l : JoinerLive) → up ≡ true → Stands core g n k l → Knows up core g n k (Some l)
 knows_up up core g n k l is stands = subst (λ (u : Bool). Knows u core g n k (Some l)) (sym is) stands
@@ -206,11 +146,7 @@ pub knows_down : (up : Bool) (core : JoinerCore) (g : Setting) (n : ℕ) (k : Jo
 knows_down up core g n k is = subst (λ (u : Bool). Knows u core g n k None) (sym is) tt
 
 stands_up : (up : Bool) (core : JoinerCore) (g : Setting) (n : ℕ) (k : JoinerKept) (live : Option JoinerLive) (l : JoinerLive) → live ≡ Some l → Knows up core g n k live → Stands core g n k l
-stands_up up core g n k live l is knows = go up (subst (λ (x : Option JoinerLive). Knows up core g n k x) is knows)
-  where
-    go : (u : Bool) → Knows u core g n k (Some l) → Stands core g n k l
-    go true stands = stands
-    go false stands = absurd stands
+stands_up up core g n k live l is knows = grind arith
 
 -- what a joiner that is up knows
 pub up_stands : (p : Parts) (epoch_image pairs_image : List ℕ → Type 0) (s : JoinerState) (l : JoinerLive) → StandsAt p epoch_image pairs_image s → is_some p.in_doubt ≡ false → s.node.live ≡ Some l → Stands p.core s.node.setting s.number s.node.kept l
@@ -254,10 +190,7 @@ restarts (Some d) p oe op q ei pi s n landed by waits found none down of_g numbe
 -- it was refused, and each disk is as it may have been
 pub waits_still : (d : Option Doubt) (p : Parts) (old_epoch old_pairs : List ℕ → Type 0) (d' : Option Doubt) (q : Parts) (epoch_image pairs_image : List ℕ → Type 0) (s : JoinerState) → StandsBy d p old_epoch old_pairs s → is_some d ≡ true → d' ≡ d
     → ((m : JoinerKept) → MayHave s.node.kept m old_epoch old_pairs → MayHave s.node.kept m epoch_image pairs_image) → StandsBy d' q epoch_image pairs_image s
-waits_still None p oe op d' q ei pi s by waits same images = absurd (cc waits)
-waits_still (Some d) p oe op d' q ei pi s by waits same images =
-    subst (λ (x : Option Doubt). StandsBy x q ei pi s) (sym same)
-    (record { begun = by.begun; opened = by.opened; input = by.input; reads = by.reads; note = by.note; noted = by.noted; in_doubt = by.in_doubt; images = images (with_note (Some by.note) s.node.kept) by.images })
+waits_still h p oe op d' q ei pi s by waits same images = grind arith
 
 -- what a joiner that waits may have on its disks
 pub record IsBetween (s : JoinerState) (epoch_image pairs_image : List ℕ → Type 0) : Type 0 where

@@ -1,10 +1,9 @@
 -- One pair more on the disk.
-use Rattle.std.proofs.Common.{◌≡◌, inl, inr, ⊎_elim, ℕ, ◌+◌, ◌-◌, ◌^◌, min, List, [], ◌∷◌, ◌++◌, length, map, Option, Some, None, sym, ap, ◌∙◌, subst, arith, length-append}
+use Rattle.std.proofs.Common.{◌≡◌, inl, ℕ, ◌+◌, ◌-◌, ◌^◌, min, List, [], ◌∷◌, ◌++◌, length, Option, Some, sym, ap, ◌∙◌, subst, arith, length-append}
 use Rattle.std.specs.Prelude.{Result, Ok, Err, OnOk}
-use Rattle.std.specs.Result.{result_unwrap_or}
 use Rattle.outside.proofs.Moments.{weaker}
 use Rattle.outside.specs.Disk.{Only, Throughout}
-use Rattle.gate_journal.specs.Gate.{gate_rule, records, StandsFor, IsOldOrNew}
+use Rattle.gate_journal.specs.Gate.{records, StandsFor, IsOldOrNew}
 use Rattle.gate_journal.specs.Growth.{Continues}
 use Rattle.gate_journal.specs.Spelled.{comes_next}
 use Rattle.turn_defs.specs.declared.pair.PairRec.{PairRec}
@@ -20,11 +19,7 @@ use Rattle.joiner_node.specs.declared.records.Record.TheVariants as written
 
 -- what is so of each image twice over is so both times
 both : {D : Type 0} (image : D → List ℕ → Type 0) (since : D → D → List ℕ → Type 0) (old new : D) (P Q : List ℕ → Type 0) → Throughout image since old new P → Throughout image since old new Q → Throughout image since old new (λ c. P c × Q c)
-both image since old new P Q p q = record {
-  each = λ c left. (p.each c left, q.each c left);
-  now = λ c here. (p.now c here, q.now c here);
-  before = λ s c left. ⊎_elim inl (λ one. ⊎_elim inl (λ other. inr (one, other)) (q.before s c left)) (p.before s c left);
-}
+both image since old new h k p q = grind arith
 
 abbrev ok_of : List (List ℕ) → Result (List (List ℕ)) ℕ
 ok_of rs = Ok rs
@@ -32,9 +27,7 @@ ok_of rs = Ok rs
 module _ {D : Type 0} (seen : D → List ℕ) (image : D → List ℕ → Type 0) (old : D) (ps : List PairRec) (p : PairRec) (payload : List ℕ) (only : Only (seen old) (image old)) (kept : AreKept (image old) ps) (is : IsPair p) (spelled : payload ≡ record_of p) where
   -- where there is an image, the disk reads as the pairs
   reads : (c : List ℕ) → image old c → spells ps (Ok (records (seen old)))
-  reads c here =
-      let at : gate_rule (seen old) ≡ ok_of (map record_of ps) = subst (λ (b : List ℕ). gate_rule b ≡ ok_of (map record_of ps)) (only c here) (kept c here).1 in
-      ((kept c here).0, ap (λ (r : Result (List (List ℕ)) ℕ). ok_of (result_unwrap_or r [])) at)
+  reads c here = grind arith
 
   pub appended : (b : List ℕ) → StandsFor (records (seen old) ++ payload ∷ []) b → Continues (image old) b → Keeps (ps ++ p ∷ []) b
   appended b stands (c, here, more) =
@@ -42,22 +35,15 @@ module _ {D : Type 0} (seen : D → List ℕ) (image : D → List ℕ → Type 0
       (grown.0, stands ∙ ap (λ (r : List ℕ). ok_of (records (seen old) ++ r ∷ [])) spelled ∙ grown.1)
 
   leaves : (b : List ℕ) → IsOldOrNew (records (seen old)) payload b × Continues (image old) b → KeepsOr ps p b
-  leaves b (or, (c, here, more)) =
-      let same = reads c here in
-      ⊎_elim (λ now. inl (same.0, now ∙ same.1)) (λ new. inr (appended b new (c, here, more))) or
+  leaves b h = grind (arith, appended)
 
   pub moments : (since : D → D → List ℕ → Type 0) (new : D) → Throughout image since old new (IsOldOrNew (records (seen old)) payload) → Throughout image since old new (Continues (image old)) → Throughout image since old new (KeepsOr ps p)
-  moments since new any grows =
-      let P : List ℕ → Type 0 = IsOldOrNew (records (seen old)) payload in
-      let Q : List ℕ → Type 0 = Continues (image old) in
-      weaker image since old new (λ b. P b × Q b) (KeepsOr ps p) leaves (both image since old new P Q any grows)
+  moments since new any grows = grind (arith, weaker, leaves)
 
 -- ---- the note of the pair
 
 pub note_is : (n : Option JoinerNote) (p : PairRec) (b : List ℕ) → Some (written.Pair p b) ≡ recorded_as n → n ≡ Some (notes.Pair p)
-note_is None p b e = absurd (cc e)
-note_is (Some (notes.Epoch x)) p b e = absurd (cc e)
-note_is (Some (notes.Pair q)) p b e = cc e
+note_is h p b e = grind arith
 
 pub kept_of : (e n : ℕ) (epoch_image pairs_image : List ℕ → Type 0) (k : JoinerKept) → Holds e n epoch_image pairs_image k → AreKept pairs_image k.pairs
 kept_of e n epoch_image pairs_image k holds c here = same_pairs k c (holds.images.pairs_or c here)

@@ -3,6 +3,7 @@ ghost use Rattle.std.specs.Prelude.{◌≡◌, [], ◌∷◌, Ok, Err};
 ghost use Rattle.gate_journal.specs.Fold.{kept_by};
 ghost use Rattle.offset_journal.specs.Offsets.{offset_record, offset_of, offsets};
 
+#[tactic(auto, unfolding(gate_journal::specs::Gate::reading))]
 /// What files keep.
 pub fn files()
     ensures none { offset_of (0 ∷ []) ≡ Ok 0 }

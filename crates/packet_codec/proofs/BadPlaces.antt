@@ -106,11 +106,7 @@ pub bad_cell : (n : ℕ) (Fits : ℕ → ℕ → Type 0) (filler : ℕ) (rest : 
     → (i < length rest → Fits i (get_or rest i 0) → ⊥)
     → IsBadAt (Cells n Fits) rest i
 bad_cell n Fits filler rest i fill lt le good wrong = record {
-  none = λ front tail s e.
-      let long : i < length rest = omega (arith, ap length e, length-append front tail, s.len) in
-      let j : i < length front = omega (arith, s.len) in
-      let same : get_or rest i 0 ≡ get_or front i 0 = ap (λ (x : List ℕ). get_or x i 0) e ∙ get_or_append_left front tail 0 i j in
-      wrong long (subst (Fits i) (sym same) (s.each i lt));
+  none = grind (arith, length-append, get_or_append_left);
   reaches = record {
     within = le;
     more = replicate (n - i) filler;

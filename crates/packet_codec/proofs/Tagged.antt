@@ -9,8 +9,8 @@ use Rattle.turn_defs.specs.declared.packet.Outcome.TheVariants as outcomes
 use Rattle.packet_codec.specs.Bad.{Spelled}
 use Rattle.turn_defs.specs.Spellings.{number, IsNumber, token, IsToken, ballot, IsBallot, batch, IsBatch, prior, IsPrior, answer, IsAnswer}
 use Rattle.turn_defs.specs.Packets.{outcome, IsOutcome}
-use Rattle.packet_codec.proofs.PartLaws.{IsApart, IsSum, Two, two, two_whole, two_same}
-use Rattle.packet_codec.proofs.Made.{token_apart, ballot_apart, batch_apart, some_number, some_token, some_ballot, some_batch}
+use Rattle.packet_codec.proofs.PartLaws.{IsApart, IsSum, Two, two, two_whole}
+use Rattle.packet_codec.proofs.Made.{token_apart, batch_apart, some_number, some_token, some_ballot, some_batch}
 use Rattle.packet_codec.proofs.Numbers.{number_apart}
 
 abbrev pub Tokens : List ℕ → Type 0
@@ -126,9 +126,7 @@ prior_sum = record { parts = parts; made = made; some = some }
     some (suc n) few = (_, two ballot IsBallot batch IsBatch some_ballot.0 some_batch.0 some_ballot.1 some_batch.1)
 
 pub prior_apart : IsApart prior IsPrior
-prior_apart None None s t p q e = refl
-prior_apart (Some x) (Some y) s t p q e = two_same (λ a b. Some (a, b)) ballot IsBallot batch IsBatch x.0 y.0 x.1 y.1 s t ballot_apart batch_apart p.0 q.0 p.1 q.1 (ap (drop 1) e)
-prior_apart v w s t p q e = absurd (omega (arith, ap (λ (x : List ℕ). get_or x 0 0) e))
+prior_apart h k s t p q e = grind (arith, batch_apart)
 
 pub some_prior : (v : Option (Ballot × Batch)) × IsPrior v
 some_prior = (None, tt)

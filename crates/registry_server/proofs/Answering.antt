@@ -1,7 +1,7 @@
 -- The rows that look for the proposal at a place and ballot, and those that learn a value.
-use Rattle.std.proofs.Common.{◌≡◌, ℕ, ◌-◌, ◌<◌, ◌≤◌, ◌&&◌, Bool, true, false, is_some, List, [], ◌∷◌, length, Some, None, refl, sym, ap, ◌∙◌, subst}
+use Rattle.std.proofs.Common.{◌≡◌, ℕ, ◌-◌, ◌<◌, ◌≤◌, ◌&&◌, Bool, true, false, is_some, List, [], ◌∷◌, length, Some, None, refl, sym, ap, ◌∙◌, subst, arith}
 use Rattle.std.specs.Prelude.{Option, option_map}
-use Rattle.registry_server.proofs.Words.{LAST_SLOT, cond-true, cond-false, and_from, and_left, and_right, lt-ltb, le-ltb, eq-eqb, ne_eqb, Ballot, Batch, Place, Phase, on_promise, on_accepted, Proposer, ballot_of, own_of, phase_of, promise_turn, acceptance_turn, Packet, AcceptPacket, Chosen, Node, Server, To, Only, Setting, shards, idle, ServerKept, ServerLive, is_below_limit, is_next, to_replicas, accept_if, promised, accepted, gets_promise, gets_accepted, gets_chosen, setting, sent, NotLast, proposal_of, counts_promise, counts_accepted, Gives, IsStep, IsAt, FitsAt, Out, Proposal, is_current, accept_all, current_of, learns_behind, Station, Shard, Promise, Accept, Change, Turn}
+use Rattle.registry_server.proofs.Words.{LAST_SLOT, cond-false, and_left, and_right, le-ltb, ne_eqb, Ballot, Batch, Place, Phase, on_promise, on_accepted, Proposer, ballot_of, own_of, phase_of, promise_turn, acceptance_turn, Packet, AcceptPacket, Chosen, Node, Server, Only, Setting, shards, idle, ServerKept, ServerLive, is_below_limit, is_next, to_replicas, accept_if, promised, accepted, gets_promise, gets_accepted, gets_chosen, setting, sent, NotLast, proposal_of, counts_promise, Gives, IsStep, IsAt, FitsAt, Out, Proposal, is_current, accept_all, current_of, learns_behind, Station, Shard, Promise, Accept, Change, Turn}
 use Rattle.registry_server.specs.declared.turn.Change.TheVariants as change
 use Rattle.registry_server.proofs.Going.{current_is, is_turn, is_acceptance, accepted_value, row_some, row_none}
 use Rattle.registry_server.proofs.Rowing.{proposal_is, one_gives, same_row}
@@ -45,19 +45,13 @@ module _ (g : Setting) (site : ℕ) (k : ServerKept) (l : ServerLive) (n r : ℕ
       -- one acceptance more is counted
       pub counted_gives : (from : ℕ) (turn : Turn) (items : List (Node × Packet)) → is_some (acceptance_turn p from b).1 ≡ false → IsStep turn n r items (Accept from) → sent items ≡ []
           → Gives g site l turn (gets_accepted g site k l from (at_slot n slot) b (l.shards n) (l.shards n).proposal)
-      counted_gives from turn items e is es =
-          let few : (on_accepted (phase_of p) from).1 ≡ None = none_from _ (subst (λ (t : Phase Batch × Option Batch). is_some t.1 ≡ false) (is_acceptance p from b same_ballots) e) in
-          same_row g site l turn _ _ (accepted_some from ∙ ap (accepted g site k l (at_slot n slot) (l.shards n) (proposal_of p) (on_accepted (phase_of p) from).0) few)
-          (one_gives g site l turn n r l.round items (Accept from) [] _ is es (sym at.round) (λ i. record (l.shards n) { proposal = ap (option_map (counts_accepted from)) is_now i }))
+      counted_gives from turn items e is es = grind (arith, none_from, is_acceptance, same_ballots, same_row, accepted_some, is_now)
 
       -- the value is chosen
       pub chosen_gives : (from : ℕ) (w : Batch) (turn : Turn) (items : List (Node × Packet)) → is_some (acceptance_turn p from b).1 ≡ true → ((marks : List Bool) (v : Batch) → phase_of p ≡ Phase.Accepting v marks → w ≡ v)
           → sent items ≡ (Only (Server (1 - site)), Chosen (at_slot n slot) w) ∷ [] → Gives g site l turn (learns_behind g site k l n w (sent items))
           → Gives g site l turn (gets_accepted g site k l from (at_slot n slot) b (l.shards n) (l.shards n).proposal)
-      chosen_gives from w turn items e value es gives =
-          let won : (on_accepted (phase_of p) from).1 ≡ Some w = accepted_value (phase_of p) from w (subst (λ (t : Phase Batch × Option Batch). is_some t.1 ≡ true) (is_acceptance p from b same_ballots) e) value in
-          same_row g site l turn _ _ (accepted_some from ∙ ap (accepted g site k l (at_slot n slot) (l.shards n) (proposal_of p) (on_accepted (phase_of p) from).0) won)
-          (subst (λ (ps : List (To × Packet)). Gives g site l turn (learns_behind g site k l n w ps)) es gives)
+      chosen_gives from w turn items e value es gives = grind (arith, accepted_value, is_acceptance, same_ballots, accepted_some)
 
   -- a value that the other server tells
   pub told_other : (v : Batch) → (slot ≡ h.next → ⊥) → gets_chosen g site k l (at_slot n slot) v (l.shards n) ≡ idle l
@@ -68,10 +62,7 @@ module _ (g : Setting) (site : ℕ) (k : ServerKept) (l : ServerLive) (n r : ℕ
 
   pub told_gives : (v w : Batch) (turn : Turn) (items : List (Node × Packet)) → slot ≡ h.next → slot < LAST_SLOT → w ≡ v → items ≡ [] → Gives g site l turn (learns_behind g site k l n w (sent items))
       → Gives g site l turn (gets_chosen g site k l (at_slot n slot) v (l.shards n))
-  told_gives v w turn items e low ev ei gives =
-      let test : (is_next g (at_slot n slot) (l.shards n) && is_below_limit slot) ≡ true = and_from _ _ (and_from _ _ (lt-ltb n (shards g) at.within) (eq-eqb slot (length (l.shards n).learned) (e ∙ next_is))) (lt-ltb slot LAST_SLOT low) in
-      same_row g site l turn _ _ (cond-true _ _ (idle l) test)
-      (subst (λ (z : Batch). Gives g site l turn (learns_behind g site k l n z [])) ev (subst (λ (ps : List (Node × Packet)). Gives g site l turn (learns_behind g site k l n w (sent ps))) ei gives))
+  told_gives v w turn items e low ev ei gives = grind (arith, next_is)
 
 -- one promise more is counted
 module _ (t : Station) (g : Setting) (k : ServerKept) (l : ServerLive) (n r : ℕ) (h : Shard) (at : IsAt (setting t g) h n r l) (slot : ℕ) (b : Ballot) where

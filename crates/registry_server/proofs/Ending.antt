@@ -1,7 +1,7 @@
 -- A turn of a server over its disk, and its restart, as the states' entries.
 use Rattle.std.proofs.Common.{◌≡◌, ◌==◌, ◌⊎◌, cond, not, arith, inl, inr, ⊎_elim, ℕ, ◌+◌, ◌≤◌, true, false, List, [], length, Option, Some, None, refl, sym, ap, ◌∙◌, subst}
 use Rattle.std.specs.Prelude.{Bool, is_some, option_map}
-use Rattle.registry_server.proofs.Words.{ends_idle, ends_done, Throughout, eq-eqb, ne_eqb, turn_moments, IsOpened, read_as, epochs, Keeps, IsLeft, JournalState, Ready, Bytes, Begin, End, Stop, Input, Note, land, AreSpelled, Reads, IsJunk, record_of, Leads, row, written, closes, land_server, Serves, note_of, site_of, SiteKept, RegistrarView, ServesSite, Knows, IsRow, landed, server_rows, ServerCore, ServerNote, Turn, ServerState, recorded, Holds, HoldsOr, OnDisk, OnDiskOr, KeptOn, StandsAt}
+use Rattle.registry_server.proofs.Words.{ends_idle, ends_done, Throughout, eq-eqb, ne_eqb, turn_moments, IsOpened, read_as, epochs, Keeps, IsLeft, JournalState, Ready, Bytes, Begin, End, Stop, Input, Note, land, AreSpelled, Reads, IsJunk, record_of, Leads, row, written, closes, land_server, note_of, SiteKept, RegistrarView, ServesSite, Knows, IsRow, landed, server_rows, ServerNote, Turn, ServerState, recorded, Holds, HoldsOr, OnDisk, OnDiskOr, KeptOn, StandsAt}
 use Rattle.registry_server.proofs.Landing.{down_stands, left_of, noted_bytes, moved}
 
 -- what is kept once the row's note is written
@@ -45,23 +45,12 @@ ends site site' doubt doubt' epoch epoch' image image' state state' v v' s t n b
 pub stays_open : (site site' : ℕ) (doubt' : Option (List ℕ)) (epoch' : ℕ) (image' : List ℕ → Type 0) (state' : JournalState) (v' : RegistrarView) (s t : ServerState) (n : ℕ) (b : Bytes) (i : Input) (turn : Turn)
     → s.kept.site ≡ site → Leads server_rows s (Begin n b) t → site' ≡ site → Reads s.setting b i → IsRow s.setting (row server_rows s i) turn → Knows v' s.setting s.kept s.live → HoldsOr doubt' turn.note epoch' image' state' s.kept.disk
     → StandsAt site' doubt' epoch' image' state' v' t
-stays_open site site' None epoch' image' state' v' s t n b i turn at_site led here reads is knows holds =
-    subst (λ (x : ServerState). StandsAt site' None epoch' image' state' v' x) (sym led.2)
-    (record { site = at_site ∙ sym here; by = (holds, knows) })
-stays_open site site' (Some r) epoch' image' state' v' s t n b i turn at_site led here reads is knows holds =
-    subst (λ (x : ServerState). StandsAt site' (Some r) epoch' image' state' v' x) (sym led.2)
-    (record {
-      site = at_site ∙ sym here;
-      by = (holds.0, record { begun = b; opened = refl; input = i; reads = reads; noted = sym is.note ∙ ap (option_map note_of) holds.1; is = holds.2 }, knows.serves);
-    })
+stays_open site site' h epoch' image' state' v' s t n b i turn at_site led here reads is knows holds = grind arith
 
 -- a restart that finds this epoch
 module _ (site site' : ℕ) (epoch epoch' : ℕ) (image image' : List ℕ → Type 0) (state state' : JournalState) (v v' : RegistrarView) (s : ServerState) (here : site' ≡ site) (core : v'.core ≡ v.core) (left : IsLeft image epoch') (ready : state' ≡ Ready) (durable : (c : List ℕ) → image' c → Keeps epoch' c) (down : v'.up ≡ false) where
   downs : (k : SiteKept) → k.site ≡ s.kept.site → s.kept.site ≡ site → epoch' ≡ k.disk.epoch → ServesSite v s.setting s.kept → StandsAt site' None epoch' image' state' v' (closes s k None)
-  downs k same at_site is serves =
-      down_stands site' epoch' image' state' v' s.setting k (same ∙ at_site ∙ sym here)
-      (record { ready = ready; epoch = is; durable = λ c now. subst (λ (e : ℕ). Keeps e c) is (durable c now) })
-      (record { site = ap site_of core ∙ serves.site ∙ sym same; setting = subst (λ (x : ServerCore). Serves x s.setting) (sym core) serves.setting }) down
+  downs k same at_site is serves = grind (arith, down_stands)
 
   -- the entry tells the note where another epoch was found
   pub restarts : (doubt : Option (List ℕ)) (n : ℕ) (landed : Bool) → is_some doubt ≡ true → StandsAt site doubt epoch image state v s → landed ≡ not (epoch' == epoch)
@@ -101,8 +90,4 @@ left_again s image kept c left = let from = kept left.0 left.1 in (from.0, from.
 -- a turn that is refused before it writes is open still
 pub still_open : (site site' : ℕ) (doubt doubt' : Option (List ℕ)) (epoch epoch' : ℕ) (image image' : List ℕ → Type 0) (state state' : JournalState) (v v' : RegistrarView) (s t : ServerState) (n : ℕ) (b : Bytes) → StandsAt site doubt epoch image state v s → Leads server_rows s (Begin n b) t
     → site' ≡ site → doubt' ≡ doubt → doubt ≡ None → Holds epoch' image' state' s.kept.disk → Knows v' s.setting s.kept s.live → StandsAt site' doubt' epoch' image' state' v' t
-still_open site site' doubt doubt' epoch epoch' image image' state state' v v' s t n b at led here doubts none holds knows =
-    let now : StandsAt site' None epoch' image' state' v' (record { setting = s.setting; kept = s.kept; live = s.live; opened = Some b }) =
-    record { site = at.site ∙ sym here; by = (holds, knows) }
-    in
-    subst (λ (d : Option (List ℕ)). StandsAt site' d epoch' image' state' v' t) (sym (doubts ∙ none)) (subst (λ (x : ServerState). StandsAt site' None epoch' image' state' v' x) (sym led.2) now)
+still_open site site' doubt doubt' epoch epoch' image image' state state' v v' s t n b at led here doubts none holds knows = grind arith

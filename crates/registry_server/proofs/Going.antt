@@ -1,27 +1,18 @@
 -- A proposal goes on until a majority has accepted its value.
-use Rattle.std.proofs.Common.{◌≡◌, ℕ, ◌<◌, ◌==◌, ◌&&◌, true, false, cond, is_some, List, length, set, Some, None, refl, sym, ap, ◌∙◌, subst, ⊎_elim}
+use Rattle.std.proofs.Common.{◌≡◌, ℕ, ◌<◌, true, false, cond, is_some, List, length, Some, None, sym, ap, ◌∙◌, subst, arith}
 use Rattle.std.specs.Prelude.{Option, option_map, Bool}
-use Rattle.registry_server.proofs.Words.{cond_both, cond-true, and_parts, and_from, and_left, and_right, lt-ltb, eq-eqb, eqb-true, and_cases, false_from_ne_true, cond_some, none-some, tied_itself, is_eq, Ballot, is_same, ballots_total, same_true, Batch, Place, Phase, is_new, is_most, on_promise, with_acceptance, on_accepted, Promising, Accepting, Ended, Proposer, ballot_of, own_of, phase_of, promise_turn, acceptance_turn, Setting, shards, Out, idle, ServerLive, ShardState, Proposal, is_current, proposal_of, current_in, current_of, Shard}
+use Rattle.registry_server.proofs.Words.{cond_both, cond-true, and_parts, and_from, and_left, and_right, lt-ltb, eq-eqb, eqb-true, false_from_ne_true, cond_some, none-some, tied_itself, is_eq, Ballot, is_same, ballots_total, Batch, Place, Phase, is_new, on_promise, with_acceptance, on_accepted, Accepting, Proposer, ballot_of, own_of, phase_of, promise_turn, acceptance_turn, Setting, shards, Out, idle, ServerLive, ShardState, Proposal, is_current, proposal_of, current_in, current_of, Shard}
 
 pub same_itself : (b : Ballot) → is_same b b ≡ true
 same_itself b = ap is_eq (tied_itself ballots_total b)
 
 -- the value that a majority accepted
 pub accepted_value : (phase : Phase Batch) (r : ℕ) (w : Batch) → is_some (on_accepted phase r).1 ≡ true → ((marks : List Bool) (v : Batch) → phase ≡ Accepting v marks → w ≡ v) → (on_accepted phase r).1 ≡ Some w
-accepted_value (Promising marks best) r w h is = absurd (cc)
-accepted_value (Accepting v marks) r w h is =
-    cond_both (is_new marks r) (with_acceptance v (set marks r true)) (Accepting v marks, None) (λ (t : Phase Batch × Option Batch). is_some t.1 ≡ true → t.1 ≡ Some w)
-    (λ _. cond_both (is_most (set marks r true)) (Ended, Some v) (Accepting v (set marks r true), None) (λ (t : Phase Batch × Option Batch). is_some t.1 ≡ true → t.1 ≡ Some w) (λ _ e. ap (λ (z : Batch). Some z) (sym (is marks v refl))) (λ _ e. absurd (cc)))
-    (λ _ e. absurd (cc)) h
-accepted_value Ended r w h is = absurd (cc)
+accepted_value k r w h is = grind (arith, cond_both, is_new, with_acceptance)
 
 -- the proposal at a slot and ballot
 pub current_is : (slot next : ℕ) (b : Ballot) (o : Option Proposer) (p : Proposer) → Some p ≡ current_in slot b next o → (o ≡ Some p) × (slot ≡ next) × (ballot_of p ≡ b)
-current_is slot next b None p e = absurd (cc)
-current_is slot next b (Some q) p e =
-    let c : (((slot == next) && is_same (ballot_of q) b) ≡ true) × (q ≡ p) = cond_some ((slot == next) && is_same (ballot_of q) b) q p (sym e) in
-    let t = and_parts (slot == next) (is_same (ballot_of q) b) c.0 in
-    (ap (λ (z : Proposer). Some z) c.1, eqb-true slot next t.0, subst (λ z. ballot_of z ≡ b) c.1 (same_true (ballot_of q) b t.1))
+current_is slot next b h p e = grind (arith, is_same, ballot_of, cond_some, and_parts, eqb-true)
 
 pub is_turn : (p : Proposer) (r : ℕ) (b : Ballot) (prior : Option (Ballot × Batch)) → ballot_of p ≡ b → promise_turn p r b prior ≡ on_promise (own_of p) (phase_of p) r prior
 is_turn p r b prior e = cond-true (is_same b (ballot_of p)) _ _ (subst (λ z. is_same b z ≡ true) (sym e) (same_itself b))
@@ -40,14 +31,4 @@ module _ (g : Setting) (at : Place) (b : Ballot) (st : ShardState) (l : ServerLi
       ap F q ∙ f (proposal_of p) ∙ cond-true (is_current g at b st (proposal_of p)) _ _ test
 
   pub row_none : F None ≡ idle l → ((q : Proposal) → is_current g at b st q ≡ false → F (Some q) ≡ idle l) → None ≡ current_of h at.slot b → F st.proposal ≡ idle l
-  row_none z f s = ap F is ∙ go h.proposal s
-    where
-      go : (o : Option Proposer) → None ≡ current_in at.slot b h.next o → F (option_map proposal_of o) ≡ idle l
-      go None s = z
-      go (Some p) s =
-          let off : ((at.slot == h.next) && is_same (ballot_of p) b) ≡ false = false_from_ne_true _ (λ t. none-some p (s ∙ cond-true _ (Some p) None t)) in
-          f (proposal_of p)
-          (⊎_elim
-          (λ (t : (at.slot == h.next) ≡ false). and_left _ _ (and_right _ _ (subst (λ m. (at.slot == m) ≡ false) next t)))
-          (λ (t : is_same (ballot_of p) b ≡ false). and_right _ _ t)
-          (and_cases (at.slot == h.next) (is_same (ballot_of p) b) off))
+  row_none z f s = grind (arith, current_in, proposal_of, idle, is_same, ballot_of, false_from_ne_true, none-some, cond-true, and_left, and_right)

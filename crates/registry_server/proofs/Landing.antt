@@ -1,7 +1,7 @@
 -- What a server over its disk stands for.
-use Rattle.std.proofs.Common.{◌≡◌, ◌⊎◌, inl, inr, ⊎_elim, ℕ, ◌+◌, ◌==◌, Bool, true, false, cond, List, Option, Some, None, refl, sym, ap, ◌∙◌, subst}
+use Rattle.std.proofs.Common.{◌≡◌, ◌⊎◌, inl, inr, ⊎_elim, ℕ, ◌+◌, Bool, true, false, List, Option, Some, None, refl, subst, arith}
 use Rattle.std.specs.Prelude.{is_some, option_map}
-use Rattle.registry_server.proofs.Words.{none_of, LAST_EPOCH, cond-true, true≢false, KeepsOr, IsLeft, JournalState, Bytes, Input, Start, Setting, record_of, Reads, IsJunk, NodeFault, Config, ServerKept, ServerLive, Stands, note_of, SiteKept, RegistrarView, ServesSite, Knows, KnowsAs, landed, site_of, Turn, ServerCore, ServerNote, ServerState, recorded, Holds, StandsAt, StandsBy, is_spent_at, spent_at, IsNotPrepared}
+use Rattle.registry_server.proofs.Words.{none_of, cond-true, KeepsOr, IsLeft, JournalState, Bytes, Input, Start, Setting, record_of, Reads, IsJunk, NodeFault, Config, ServerKept, ServerLive, Stands, note_of, SiteKept, RegistrarView, ServesSite, Knows, KnowsAs, landed, site_of, Turn, ServerCore, ServerNote, ServerState, recorded, Holds, StandsAt, is_spent_at, spent_at, IsNotPrepared}
 use Rattle.air_bus.specs.declared.entry.Input.TheVariants as bytes
 use Rattle.site_node.specs.declared.kind.NodeFault.TheVariants as fault
 use Rattle.registry_server.specs.declared.turn.ServerNote.TheVariants as notes
@@ -28,12 +28,7 @@ moved site (Some r) epoch image state v s o none at = absurd (cc none)
 -- the numbers that its core was made of are those of the setting
 pub config_is : (site : ℕ) (doubt : Option (List ℕ)) (epoch : ℕ) (image : List ℕ → Type 0) (state : JournalState) (v : RegistrarView) (s : ServerState) (core : ServerCore) (config : Config) → StandsAt site doubt epoch image state v s → core ≡ v.core → config ≡ core.station.config
     → s.setting.config ≡ config
-config_is site doubt epoch image state v s core config at same is =
-    go doubt at.by ∙ sym (is ∙ ap (λ (x : ServerCore). x.station.config) same)
-  where
-    go : (d : Option (List ℕ)) → StandsBy d epoch image state v s → s.setting.config ≡ v.core.station.config
-    go None by = by.1.serves.setting
-    go (Some r) by = by.2.setting
+config_is site doubt epoch image state v s core config at same is = grind arith
 
 pub quiet : (site : ℕ) (doubt : Option (List ℕ)) (epoch : ℕ) (image : List ℕ → Type 0) (state : JournalState) (v : RegistrarView) (s : ServerState) → doubt ≡ None → StandsAt site doubt epoch image state v s
     → Holds epoch image state s.kept.disk × Knows v s.setting s.kept s.live
@@ -47,10 +42,7 @@ knows_down false v g k e = tt
 -- a node that is down
 pub down_stands : (site : ℕ) (epoch : ℕ) (image : List ℕ → Type 0) (state : JournalState) (v : RegistrarView) (g : Setting) (k : SiteKept) → k.site ≡ site → Holds epoch image state k.disk → ServesSite v g k → v.up ≡ false
     → StandsAt site None epoch image state v (record { setting = g; kept = k; live = None; opened = None })
-down_stands site epoch image state v g k here holds serves down = record {
-  site = here;
-  by = (holds, record { serves = serves; by = knows_down v.up v g k down });
-}
+down_stands site epoch image state v g k here holds serves down = grind arith
 
 pub knows_up : (u : Bool) (core : ServerCore) (g : Setting) (k : ServerKept) (l : ServerLive) → u ≡ true → Stands core g k l → KnowsAs u core g k (Some l)
 knows_up true core g k l e stands = stands
@@ -59,10 +51,7 @@ knows_up false core g k l e stands = absurd (cc e)
 -- what it knows once a turn is kept
 pub keeps_knows : (core : ServerCore) (v : RegistrarView) (g : Setting) (k : SiteKept) (next : ServerLive) (turn : Turn) → site_of core ≡ k.site → site_of v.core ≡ site_of core → v.up ≡ true → Stands v.core g (landed turn k.disk) next
     → Knows v g (record { site = k.site; disk = landed turn k.disk }) (Some next)
-keeps_knows core v g k next turn site stays up stands = record {
-  serves = record { site = stays ∙ site; setting = stands.config };
-  by = knows_up v.up v.core g (landed turn k.disk) next up stands;
-}
+keeps_knows core v g k next turn site stays up stands = grind (arith, knows_up)
 
 -- what a node that is up knows
 pub stands_up : (v : RegistrarView) (g : Setting) (k : SiteKept) (live : Option ServerLive) (l : ServerLive) → Knows v g k live → live ≡ Some l → Stands v.core g k.disk l
@@ -75,24 +64,11 @@ up_stands site doubt epoch image state v s l waits at up = stands_up v s.setting
 
 -- a turn that is refused since the epoch is spent
 pub spent_told : (s : ServerState) (b : Bytes) (i : Input) (f : NodeFault) (e epoch : ℕ) → Reads s.setting b i → epoch ≡ s.kept.disk.epoch → IsNotPrepared epoch i f → f ≡ fault.Spent e → spent_at s b ≡ Some e
-spent_told s b i f e epoch reads same why is = go b reads (subst (IsNotPrepared epoch i) is why)
-  where
-    go : (b : Bytes) → Reads s.setting b i → (e ≡ epoch) × (is_spent_at epoch i ≡ true) → spent_at s b ≡ Some e
-    go bytes.Start reads told =
-        cond-true (s.kept.disk.epoch == LAST_EPOCH) (Some s.kept.disk.epoch) None (ap (λ n. n == LAST_EPOCH) (sym same) ∙ ap (is_spent_at epoch) (sym reads) ∙ told.1) ∙ ap (λ n. Some n) (sym (told.0 ∙ same))
-    go bytes.Own reads told = absurd (true≢false (sym told.1 ∙ ap (is_spent_at epoch) reads))
-    go bytes.Tick reads told = absurd (true≢false (sym told.1 ∙ ap (is_spent_at epoch) reads))
-    go (bytes.Packet from p) reads told = absurd (true≢false (sym told.1 ∙ ap (is_spent_at epoch) reads.5))
+spent_told s b i f e epoch reads same why is = grind (arith, is_spent_at, spent_at, cond-true)
 
 -- where the kept epoch is the last one, a start is refused
 pub spent_input : (s : ServerState) (b : Bytes) (i : Input) (e epoch : ℕ) → Reads s.setting b i → epoch ≡ s.kept.disk.epoch → spent_at s b ≡ Some e → is_spent_at epoch i ≡ true
-spent_input s bytes.Start i e epoch reads same is =
-    let last : (s.kept.disk.epoch == LAST_EPOCH) ≡ true = go (s.kept.disk.epoch == LAST_EPOCH) is in
-    ap (is_spent_at epoch) reads ∙ ap (λ n. n == LAST_EPOCH) same ∙ last
-  where
-    go : (t : Bool) → cond t (Some s.kept.disk.epoch) None ≡ Some e → t ≡ true
-    go true h = refl
-    go false h = absurd (cc h)
+spent_input s bytes.Start i e epoch reads same is = grind arith
 spent_input s _ i e epoch reads same is = absurd (cc is)
 
 -- what no packet spells is no start

@@ -1,13 +1,10 @@
 -- Lists of shards that stand for the states of their numbers, changed in one place.
-use Rattle.std.proofs.Common.{◌≡◌, ℕ, ◌+◌, ◌<◌, ◌≤◌, false, List, [], ◌++◌, length, take, drop, get_or, set, refl, sym, ap, ◌∙◌, subst, ⊎_elim, arith}
+use Rattle.std.proofs.Common.{◌≡◌, ℕ, ◌+◌, ◌<◌, ◌≤◌, false, List, ◌++◌, length, take, drop, get_or, set, refl, sym, ◌∙◌, subst, ⊎_elim, arith}
 use Rattle.registry_server.proofs.Words.{cases_eq, get_or-set_same, get_or-set_other, length-set, append-nil, take_all, drop_all, ShardState, IsShard, EachStands, Shard}
 
 -- one shard in the place of another, which stands for whatever that one stands for
 pub set_each : (xs : List Shard) (f : ℕ → ShardState) (i : ℕ) (old new : Shard) → i < length xs → old ≡ get_or xs i old → ((st : ShardState) → IsShard old st → IsShard new st) → EachStands xs f → EachStands (set xs i new) f
-set_each xs f i old new w is same h = λ s d lt. ⊎_elim
-    (λ (e : s ≡ i). subst (λ n. IsShard (get_or (set xs i new) n d) (f n)) (sym e) (subst (λ x. IsShard x (f i)) (sym (get_or-set_same xs i new d w)) (same (f i) (subst (λ x. IsShard x (f i)) (sym is) (h i old w)))))
-    (λ (ne : s ≡ i → ⊥). subst (λ x. IsShard x (f s)) (sym (get_or-set_other xs i s new d ne)) (h s d (let n = length-set xs i new in omega arith)))
-    (cases_eq s i)
+set_each xs f i old new w is same h = grind (arith, get_or-set_same, get_or-set_other, length-set)
 
 -- Up to a place the shards were released, and from it on they are as at the start.
 pub record Released (start items : List Shard) (i : ℕ) : Type 0 where
@@ -27,16 +24,11 @@ released_more start items i old new w is release r =
     }
   where
     here : (f : ℕ → ShardState) → EachStands start f → (d : Shard) → IsShard (get_or (set items i new) i d) (record (f i) { held = false })
-    here f h d =
-        let few : i < length start = (let n = r.many in omega arith) in
-        let was : IsShard old (f i) = subst (λ x. IsShard x (f i)) (sym (is ∙ r.rest i old (omega arith))) (h i old few) in
-        subst (λ x. IsShard x (record (f i) { held = false })) (sym (get_or-set_same items i new d w)) (release (f i) was)
+    here f h d = grind (arith, get_or-set_same)
 
 pub released_all : (start items : List Shard) (i : ℕ) → length items ≤ i → Released start items i → (f : ℕ → ShardState) → EachStands start f → EachStands items (λ s. record (f s) { held = false })
 released_all start items i most r f h = λ s d lt. let n = r.many in r.below f h s d (omega arith) (omega arith)
 
 -- a slice that takes the whole of a list is the list
 pub written_back : (items start : List Shard) (n : ℕ) → length items ≡ length start → length items ≤ n → take n (items ++ drop (length items) start) ≡ items
-written_back items start n e most =
-    let none : drop (length items) start ≡ [] = drop_all (length items) start (omega arith) in
-    ap (λ (xs : List Shard). take n (items ++ xs)) none ∙ ap (take n) (append-nil items) ∙ take_all n items most
+written_back items start n e most = grind (arith, drop_all, append-nil, take_all)

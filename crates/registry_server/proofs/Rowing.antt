@@ -1,7 +1,7 @@
 -- A step of one shard as a row's turn.
-use Rattle.std.proofs.Common.{◌≡◌, ℕ, suc, ◌+◌, ◌≤◌, true, List, [], ◌∷◌, ◌++◌, length, take, Some, None, refl, sym, ap, ◌∙◌, subst, arith}
-use Rattle.std.specs.Prelude.{Option, option_map, min}
-use Rattle.registry_server.proofs.Words.{MOST_INSERTS, cond-true, set_at, Ballot, Insert, Batch, Answer, replay, batch_of, waiting, answered, nobody, Promising, Proposer, ballot_of, own_of, phase_of, Packet, Prepare, Node, To, Setting, Out, ServerKept, ServerLive, ShardState, claimed, reply, replies, may_propose, to_replicas, setting, sent, each_reply, IsShard, stepped, proposal_of, Gives, IsStep, note_of, changed, IsAt, proposes_if, learns_behind, Station, Shard, Step, Propose, Learn, Turn}
+use Rattle.std.proofs.Common.{◌≡◌, ℕ, ◌+◌, ◌≤◌, true, List, [], ◌∷◌, ◌++◌, take, Some, None, refl, sym, ap, ◌∙◌, subst, arith}
+use Rattle.std.specs.Prelude.{option_map, min}
+use Rattle.registry_server.proofs.Words.{MOST_INSERTS, set_at, Insert, Batch, Answer, replay, batch_of, waiting, answered, nobody, Promising, Proposer, ballot_of, own_of, phase_of, Packet, Prepare, Node, To, Setting, Out, ServerKept, ServerLive, ShardState, claimed, reply, replies, may_propose, to_replicas, setting, sent, each_reply, IsShard, stepped, proposal_of, Gives, IsStep, IsAt, proposes_if, learns_behind, Station, Shard, Step, Propose, Learn, Turn}
 use Rattle.registry_server.specs.declared.turn.Change.TheVariants as change
 use Rattle.registry_server.proofs.Sending.{replies_each}
 
@@ -14,12 +14,7 @@ proposal_is h st is = ap (λ (s : ShardState). s.proposal) is.is
 pub one_gives : (g : Setting) (site : ℕ) (l : ServerLive) (turn : Turn) (n r round : ℕ) (items : List (Node × Packet)) (step : Step) (packets : List (To × Packet)) (st : ShardState)
     → IsStep turn n r items step → sent items ≡ packets → r ≡ round → stepped g site step (l.shards n) ≡ st
     → Gives g site l turn (record { note = None; packets = packets; live = record { round = round; shards = set_at l.shards n st } })
-one_gives g site l turn n r round items step packets st is es er est =
-    record {
-      note = ap (option_map note_of) is.note;
-      packets = ap sent is.packets ∙ es;
-      live = ap (λ ch. changed g site ch l) is.change ∙ (λ i. record { round = er i; shards = set_at l.shards n (est i) });
-    }
+one_gives g site l turn n r round items step packets st is es er est = grind arith
 
 pub same_row : (g : Setting) (site : ℕ) (l : ServerLive) (turn : Turn) (a b : Out ServerLive) → a ≡ b → Gives g site l turn b → Gives g site l turn a
 same_row g site l turn a b e h = subst (λ o. Gives g site l turn o) (sym e) h
@@ -28,9 +23,7 @@ module _ (g : Setting) (site : ℕ) (k : ServerKept) (l : ServerLive) (n : ℕ) 
   -- an insert that is answered
   pub replayed_gives : (x : Insert) (a : Answer) → Some a ≡ replay (l.shards n).learned x.id x.token → turn.note ≡ None → turn.change ≡ change.Nothing → sent turn.packets.items ≡ reply g site x a
       → Gives g site l turn (claimed g site k l x n (l.shards n) (replay (l.shards n).learned x.id x.token))
-  replayed_gives x a e en ec ep =
-      subst (λ (o : Option Answer). Gives g site l turn (claimed g site k l x n (l.shards n) o)) e
-      (record { note = ap (option_map note_of) en; packets = ep; live = ap (λ ch. changed g site ch l) ec })
+  replayed_gives x a e en ec ep = grind arith
 
   -- a value that is learned
   pub learned_gives : (h : Shard) (v : Batch) (r : ℕ) (items : List (Node × Packet)) (packets : List (To × Packet)) (told : List (Insert × Answer)) → IsAt g h n r l → IsStep turn n r items (Learn v told)
@@ -51,15 +44,4 @@ module _ (t : Station) (g : Setting) (k : ServerKept) (l : ServerLive) (n : ℕ)
       → own_of p ≡ batch_of t.config.horizon (take (min t.config.batch MOST_INSERTS) (waiting h.queue))
       → phase_of p ≡ Promising (nobody t.config.replicas) None
       → Gives (setting t g) t.site l turn (proposes_if (setting t g) t.site k l n)
-  proposed_gives h r e p items few at ee may is es eb eo ep =
-      let next : h.next ≡ length (l.shards n).learned = at.stands.learned.next in
-      let round : r + 1 ≡ suc l.round = (let q = at.round in omega arith) in
-      let ballot : ◌≡◌ {A = Ballot} (record { round = r + 1; epoch = e; site = t.site }) (record { round = suc l.round; epoch = k.epoch; site = t.site }) = λ i. record { round = round i; epoch = ee i; site = t.site } in
-      let size : min t.config.batch MOST_INSERTS ≡ t.config.batch = omega arith in
-      let own : own_of p ≡ batch_of t.config.horizon (take t.config.batch (l.shards n).queue) = eo ∙ (λ i. batch_of t.config.horizon (take (size i) (sym (queue_is h (l.shards n) at.stands) i))) in
-      let b = eb ∙ ballot in
-      same_row (setting t g) t.site l turn _ _ (cond-true (may_propose (setting t g) (l.shards n)) _ _ (sym may))
-      (one_gives (setting t g) t.site l turn n (r + 1) (suc l.round) items (Propose p) _ _ is
-      (es ∙ (λ i. to_replicas t.config.replicas (Prepare (record { shard = n; slot = next i }) (ballot i))))
-      round
-      (λ i. record (l.shards n) { proposal = Some (record { ballot = b i; own = own i; phase = ep i }) }))
+  proposed_gives h r e p items few at ee may is es eb eo ep = grind (arith, queue_is, same_row)

@@ -1,7 +1,6 @@
 -- Packets, put behind one another.
-use Rattle.std.proofs.Common.{◌≡◌, ℕ, suc, ◌+◌, ◌-◌, ◌<◌, ◌≤◌, List, [], ◌∷◌, ◌++◌, length, take, get_or, refl, sym, ap, ◌∙◌, Some, None, cond, not, is_some, arith}
-use Rattle.std.specs.Prelude.{Option, option_map}
-use Rattle.registry_server.proofs.Words.{cons_option, map-append, append_assoc, append-nil, take_more, Insert, Batch, Answer, replay, answered, left_of, Packet, Node, Replica, To, Only, Setting, Addressed, to_from, reply, reply_if, replies, keep_if, unanswered, sent, each_reply}
+use Rattle.std.proofs.Common.{◌≡◌, ℕ, suc, ◌+◌, ◌-◌, ◌<◌, ◌≤◌, List, [], ◌∷◌, ◌++◌, length, take, get_or, refl, sym, ap, ◌∙◌, arith}
+use Rattle.registry_server.proofs.Words.{map-append, append_assoc, append-nil, take_more, Insert, Batch, Answer, replay, answered, left_of, Packet, Node, Replica, To, Only, Setting, Addressed, to_from, reply, replies, unanswered, sent, each_reply}
 
 pub sent_push : (ps : List (Node × Packet)) (p : Node × Packet) → sent (ps ++ p ∷ []) ≡ sent ps ++ (Only p.0, p.1) ∷ []
 sent_push ps p = map-append (λ (q : Node × Packet). (Only q.0, q.1)) ps (p ∷ [])
@@ -41,18 +40,8 @@ module _ (g : Setting) (site : ℕ) where
   -- the Replies to those that have an answer are the Replies
   pub replies_each : (vs : List Batch) (xs : List Insert) → each_reply g site (answered (λ x. replay vs x.id x.token) xs) ≡ replies g site vs xs
   replies_each vs [] = refl
-  replies_each vs (x ∷ xs) = go (replay vs x.id x.token) (replies_each vs xs)
-    where
-      go : (o : Option Answer) → each_reply g site (answered (λ x. replay vs x.id x.token) xs) ≡ replies g site vs xs
-          → each_reply g site (cons_option (option_map (λ (a : Answer). (x, a)) o) (answered (λ x. replay vs x.id x.token) xs)) ≡ reply_if g site x o ++ replies g site vs xs
-      go None h = h
-      go (Some a) h = ap (λ (ys : List (To × Packet)). reply g site x a ++ ys) h
+  replies_each vs (x ∷ xs) = grind (arith, replies_each vs xs)
 
   pub unanswered_left : (vs : List Batch) (xs : List Insert) → left_of (λ x. replay vs x.id x.token) xs ≡ unanswered g site vs xs
   unanswered_left vs [] = refl
-  unanswered_left vs (x ∷ xs) = go (replay vs x.id x.token) (unanswered_left vs xs)
-    where
-      go : (o : Option Answer) → left_of (λ x. replay vs x.id x.token) xs ≡ unanswered g site vs xs
-          → cond (not (is_some o)) (x ∷ left_of (λ x. replay vs x.id x.token) xs) (left_of (λ x. replay vs x.id x.token) xs) ≡ keep_if g site x o (unanswered g site vs xs)
-      go None h = ap (λ (ys : List Insert). x ∷ ys) h
-      go (Some a) h = h
+  unanswered_left vs (x ∷ xs) = grind (arith, unanswered_left vs xs)

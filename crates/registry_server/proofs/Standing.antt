@@ -1,7 +1,7 @@
 -- What a core stands for, shard by shard.
-use Rattle.std.proofs.Common.{◌≡◌, ℕ, zero, suc, ◌+◌, ◌-◌, ◌<◌, ◌≤◌, ◌&&◌, Bool, true, false, cond, List, ◌++◌, length, get_or, Some, None, refl, sym, ap, ◌∙◌, subst, arith}
+use Rattle.std.proofs.Common.{◌≡◌, ℕ, zero, suc, ◌+◌, ◌-◌, ◌<◌, ◌≤◌, ◌&&◌, Bool, true, false, List, ◌++◌, length, get_or, Some, None, refl, sym, ap, ◌∙◌, subst, arith}
 use Rattle.std.specs.Prelude.{Option}
-use Rattle.registry_server.proofs.Words.{LAST_SLOT, cond-true, cond-false, cond_both, and_left, le-ltb, lt-ltb, same_Some, append-nil, append_assoc, Ballot, Insert, Batch, shard_count, Place, Packet, Node, Replica, To, Setting, shards, Out, idle, Addressed, ServerKept, ServerLive, ShardState, Proposal, first_shard, may_propose, owns, server_own, is_next, is_current, is_below_limit, gets_promise, gets_accepted, gets_nack, gets_chosen, server_gets, again, all_again, setting, IsShard, passes, Stands, Gives, IsTurn, IsAt, number_of, proposes_if, Shard, Test, Turn, ServerCore}
+use Rattle.registry_server.proofs.Words.{LAST_SLOT, cond-false, cond_both, and_left, le-ltb, append-nil, append_assoc, Ballot, Insert, Batch, shard_count, Place, Packet, Node, To, Setting, shards, Out, idle, Addressed, ServerKept, ServerLive, ShardState, Proposal, first_shard, may_propose, owns, server_own, is_next, is_current, is_below_limit, gets_chosen, server_gets, again, all_again, setting, IsShard, passes, Stands, Gives, IsTurn, IsAt, number_of, proposes_if, Shard, Test, Turn, ServerCore}
 use Rattle.turn_defs.specs.declared.packet.Packet.TheVariants as packet
 use Rattle.registry_server.proofs.Sending.{addressed}
 
@@ -13,14 +13,10 @@ first_more P i n whole lt off h =
     (λ j. first_shard P (next j) (n - (i + 1))) ∙ sym (cond-false (P i) (Some i) (first_shard P (suc i) (n - (i + 1))) (sym off)) ∙ (λ j. first_shard P i (sym left j)) ∙ h
 
 pub first_found : (P : ℕ → Bool) (i n : ℕ) (whole : Option ℕ) → i < n → true ≡ P i → first_shard P i (n - i) ≡ whole → Some i ≡ whole
-first_found P i n whole lt on h =
-    let left : n - i ≡ suc (n - (i + 1)) = omega arith in
-    sym (cond-true (P i) (Some i) (first_shard P (suc i) (n - (i + 1))) (sym on)) ∙ (λ j. first_shard P i (sym left j)) ∙ h
+first_found k i n whole lt on h = grind arith
 
 pub first_none : (P : ℕ → Bool) (i n : ℕ) (whole : Option ℕ) → n ≤ i → first_shard P i (n - i) ≡ whole → None ≡ whole
-first_none P i n whole most h =
-    let left : n - i ≡ 0 = omega arith in
-    (λ j. first_shard P i (sym left j)) ∙ h
+first_none k i n whole most h = grind arith
 
 module _ (g : Setting) (site : ℕ) (k : ServerKept) (l : ServerLive) where
   pub again_more : (i n : ℕ) (before after whole : List (To × Packet)) → i < n → after ≡ before ++ again g site k l i (l.shards i) (l.shards i).proposal → before ++ all_again g site k l i (n - i) ≡ whole → after ++ all_again g site k l (i + 1) (n - (i + 1)) ≡ whole
@@ -50,15 +46,7 @@ module _ (g : Setting) (site : ℕ) (k : ServerKept) (l : ServerLive) where
     off_chosen at v st e = cond-false (is_next g at st && is_below_limit at.slot) _ (idle l) (and_left _ _ (off_next at st e))
 
     pub beyond : (from : Node) (p : Packet) → number_of g p ≡ Some n → ((x : Insert) → p ≡ packet.Insert x → n < shards g) → server_gets g site k l from p ≡ idle l
-    beyond from (packet.Insert x) e in_table = let w = in_table x refl in absurd (omega arith)
-    beyond from (packet.Chosen at v) e in_table = off_chosen at v (l.shards at.shard) (same_Some _ _ e)
-    beyond (Replica r) (packet.Promise at b prior) e in_table = off (gets_promise g site k l r at b prior (l.shards at.shard)) at b (l.shards at.shard) (same_Some _ _ e) refl (λ q f. cond-false _ _ _ f) (l.shards at.shard).proposal
-    beyond _ (packet.Promise at b prior) e in_table = refl
-    beyond (Replica r) (packet.Accepted at b) e in_table = off (gets_accepted g site k l r at b (l.shards at.shard)) at b (l.shards at.shard) (same_Some _ _ e) refl (λ q f. cond-false _ _ _ f) (l.shards at.shard).proposal
-    beyond _ (packet.Accepted at b) e in_table = refl
-    beyond (Replica r) (packet.Nack at b above) e in_table = off (gets_nack g site k l at b above (l.shards at.shard)) at b (l.shards at.shard) (same_Some _ _ e) refl (λ q f. cond-false _ _ _ f) (l.shards at.shard).proposal
-    beyond _ (packet.Nack at b above) e in_table = refl
-    beyond _ _ e in_table = absurd (cc)
+    beyond from h e in_table = grind (arith, off_chosen)
 
 module _ (core : ServerCore) (g : Setting) (k : ServerKept) (l : ServerLive) (h : Stands core g k l) where
   -- the setting is the core's
@@ -88,11 +76,7 @@ turn_of g site l turn out h = record { note = h.note; packets = subst (λ ps. Ad
 -- the server's own work, from the first shard that may propose
 pub first_passes : (P : ℕ → Bool) (from m n : ℕ) → Some n ≡ first_shard P from m → P n ≡ true
 first_passes P from zero n e = absurd (cc)
-first_passes P from (suc m) n e = go (P from) refl e (λ h. first_passes P (suc from) m n h)
-  where
-    go : (b : Bool) → P from ≡ b → Some n ≡ cond b (Some from) (first_shard P (suc from) m) → (Some n ≡ first_shard P (suc from) m → P n ≡ true) → P n ≡ true
-    go true on h later = subst (λ z. P z ≡ true) (sym (same_Some n from h)) on
-    go false off h later = later h
+first_passes P from (suc m) n e = grind (arith, first_passes P (suc from) m n)
 
 module _ (g : Setting) (site : ℕ) (k : ServerKept) (l : ServerLive) where
   pub own_spent : LAST_SLOT ≤ l.round → server_own g site k l ≡ idle l
@@ -102,6 +86,4 @@ module _ (g : Setting) (site : ℕ) (k : ServerKept) (l : ServerLive) where
   own_none e = cond_both (is_below_limit l.round) (owns g site k l (first_shard (λ s. may_propose g (l.shards s)) 0 (shards g))) (idle l) (λ o. o ≡ idle l) (λ _. ap (owns g site k l) (sym e)) (λ _. refl)
 
   pub own_is : (n : ℕ) → l.round < LAST_SLOT → Some n ≡ first_shard (λ s. may_propose g (l.shards s)) 0 (shards g) → server_own g site k l ≡ proposes_if g site k l n
-  own_is n low e =
-      cond-true (is_below_limit l.round) _ (idle l) (lt-ltb l.round LAST_SLOT low) ∙ ap (owns g site k l) (sym e)
-      ∙ sym (cond-true (may_propose g (l.shards n)) _ (idle l) (first_passes (λ s. may_propose g (l.shards s)) 0 (shards g) n e))
+  own_is n low e = grind (arith, first_passes)

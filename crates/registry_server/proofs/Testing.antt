@@ -1,7 +1,7 @@
 -- What the tests of a shard say.
-use Rattle.std.proofs.Common.{◌≡◌, ℕ, ◌<◌, ◌==◌, ◌&&◌, true, not, is_none, List, [], ◌∷◌, length, Some, None, refl, sym, ap, ◌∙◌, subst, arith}
-use Rattle.std.specs.Prelude.{Bool, Option, option_map, nat_lt, ◌||◌}
-use Rattle.registry_server.proofs.Words.{LAST_SLOT, and_parts, ltb-true, ne_eqb, Insert, waiting, bound_of, Proposer, Setting, is_empty, ShardState, is_free, is_below_limit, setting, IsShard, passes, says, proposal_of, Station, Shard, Test, IsBelowHorizon, IsUnfinished, MayPropose}
+use Rattle.std.proofs.Common.{◌≡◌, ℕ, ◌<◌, ◌==◌, true, is_none, List, [], ◌∷◌, length, Some, None, refl, sym, ap, ◌∙◌, arith}
+use Rattle.std.specs.Prelude.{Bool, Option, option_map, nat_lt}
+use Rattle.registry_server.proofs.Words.{LAST_SLOT, ne_eqb, Insert, waiting, bound_of, Proposer, Setting, is_empty, ShardState, is_free, setting, IsShard, passes, says, proposal_of, Station, Shard, Test, MayPropose}
 use Rattle.registry_server.proofs.Rowing.{queue_is, proposal_is}
 
 free_is : (o : Option Proposer) → is_none o ≡ is_free (option_map proposal_of o)
@@ -23,11 +23,7 @@ module _ (t : Station) (g : Setting) (h : Shard) (st : ShardState) (free empty :
   held = sym (ap (λ (s : ShardState). s.held) is.is)
 
   pub passes_is : (test : Test) → says test free h.held empty (nat_lt bound t.config.horizon) (nat_lt h.next LAST_SLOT) ≡ passes (setting t g) test st
-  passes_is MayPropose = λ i. (f i && not (held i)) && ((not (e i) || nat_lt (eb i) t.config.horizon) && is_below_limit (is.learned.next i))
-  passes_is IsUnfinished = λ i. (not (f i) || held i) || (not (e i) || nat_lt (eb i) t.config.horizon)
-  passes_is IsBelowHorizon = λ i. nat_lt (eb i) t.config.horizon
+  passes_is h = grind (arith, f, held)
 
 pub low_is : (test : Test) (n : ℕ) (free held empty below : Bool) → test ≡ MayPropose → says test free held empty below (nat_lt n LAST_SLOT) ≡ true → n < LAST_SLOT
-low_is test n free held empty below may e =
-    let on = subst (λ (t : Test). says t free held empty below (nat_lt n LAST_SLOT) ≡ true) may e in
-    ltb-true n LAST_SLOT (and_parts (not empty || below) (nat_lt n LAST_SLOT) (and_parts (free && not held) ((not empty || below) && nat_lt n LAST_SLOT) on).1).1
+low_is test n free held empty below may e = grind arith

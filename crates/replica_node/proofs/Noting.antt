@@ -1,9 +1,8 @@
 -- What an acceptor knows after a note more, and its turns as rows.
-use Rattle.std.proofs.Common.{◌≡◌, List, [], ◌∷◌, ◌++◌, Option, Some, None, refl, sym, ap, ◌∙◌, subst}
+use Rattle.std.proofs.Common.{◌≡◌, List, [], ◌∷◌, ◌++◌, Option, sym, ap, ◌∙◌, arith}
 use Rattle.std.specs.Prelude.{option_map}
-use Rattle.replica_node.proofs.Words.{map-append, Batch, Place, Vote, promise, acceptance, note_from, cell_noted, ReplicaNote, Promised, Accepted, Acceptor, place_of, note_view, note_for, note_by, cell_with, BallotNote, Voted, Setting, Addressed, Packet, Node, Turn, ReplicaKept, cell_at, note_at, land_replica, says, IsRow, Knows, noted, kept_of}
+use Rattle.replica_node.proofs.Words.{map-append, Batch, Place, Vote, promise, acceptance, cell_noted, ReplicaNote, Promised, Accepted, Acceptor, place_of, note_view, note_for, cell_with, BallotNote, Voted, Setting, Packet, Node, Turn, ReplicaKept, cell_at, note_at, land_replica, says, IsRow, Knows, noted, kept_of}
 use Rattle.paxos_acceptor.specs.Cells as cells
-use Rattle.turn_defs.specs.declared.node.To.TheVariants.{Only}
 
 -- the kept notes, with one more behind them
 abbrev pub with_note : ReplicaKept → ReplicaNote → ReplicaKept
@@ -20,18 +19,6 @@ knows_note old new k note before after p = after p ∙ ap (cell_with note p) (be
 pub kept_push : (notes : List ReplicaNote) (note : ReplicaNote) → with_note (kept_of notes) note ≡ kept_of (notes ++ note ∷ [])
 kept_push notes note = ap (λ (ns : List BallotNote). record { notes = ns }) (sym (map-append note_view notes (note ∷ [])))
 
--- the note of a vote, as the row has it
-pub vote_noted : (at : Place) (x : Option (Vote Batch)) → noted (option_map (note_for at.shard at.slot) x) ≡ note_at at x
-vote_noted at None = refl
-vote_noted at (Some x) = go x.value
-  where
-    go : (o : Option Batch) → noted (Some (note_by at.shard at.slot x.ballot o)) ≡ Some (Voted (note_from at x.ballot o))
-    go None = refl
-    go (Some v) = refl
-
 -- a turn with this vote's note and this packet has the row's
 pub says_row : (g : Setting) (to : Node) (at : Place) (x : Option (Vote Batch)) (p q : Packet) (turn : Turn) → turn.note ≡ option_map (note_for at.shard at.slot) x → turn.packets.items ≡ (to, q) ∷ [] → q ≡ p → IsRow g (says to p (note_at at x)) turn
-says_row g to at x p q turn note sent same = record {
-  note = ap noted note ∙ vote_noted at x;
-  packets = subst (λ (ps : List (Node × Packet)). Addressed g ((Only to, p) ∷ []) ps) (sym sent) ((refl, sym same), tt);
-}
+says_row g to at x p q turn note sent same = grind (arith, noted)

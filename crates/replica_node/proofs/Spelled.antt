@@ -1,12 +1,10 @@
 -- Where the kept notes and the input have spellings, so have the row's note and packets.
-use Rattle.std.proofs.Common.{◌≡◌, ℕ, List, ◌++◌, length, length-append, IfSome, Option, Some, None, sym, ap, ◌∙◌, subst, arith}
+use Rattle.std.proofs.Common.{◌≡◌, ℕ, List, ◌++◌, length, length-append, IfSome, Option, Some, None, sym, ap, ◌∙◌, arith}
 use Rattle.replica_node.proofs.Words.{Each, ReplicaNote, note, Note, land, ReplicaKept, land_replica, noted, IsNote, IsRowNote, each_push, IsVoted}
 use Rattle.paxos_acceptor.specs.declared.notes.ReplicaNote.TheVariants as replica
 
 pub note_ok : (o : Option ReplicaNote) (n : Option Note) → noted o ≡ n → IsRowNote n → IfSome o IsNote
-note_ok None n e is = tt
-note_ok (Some (replica.Promised s l b)) n e is = subst IsRowNote (sym e) is
-note_ok (Some (replica.Accepted s l b v)) n e is = subst IsRowNote (sym e) is
+note_ok h n e is = grind arith
 
 -- so has what is kept once the note is written
 pub landed_ok : (k : ReplicaKept) (o : Option ReplicaNote) → Each IsVoted k.notes → IfSome o IsNote → Each IsVoted (land land_replica (noted o) k).notes

@@ -42,21 +42,7 @@ knows_by false v k e is = is
 
 pub down_stands : (config : Config) (count : ℕ) (seen : List ℕ) (image : List ℕ → Type 0) (state : JournalState) (voter : VoterView) (notes : List ReplicaNote) (k : ReplicaKept) (g : Setting) → g.config ≡ config → All IsNote notes → kept_of notes ≡ k → state ≡ Ready
     → StandsFor (map note notes) seen → Only seen image → count ≡ length notes → count ≤ 2 ^ 64 - 1 → voter.up ≡ false → voter.notes ≡ notes → StandsAt config None count seen image state voter (record { setting = g; kept = k; live = None; opened = None })
-down_stands config count seen image state voter notes k g of_g all is ready reads only counts fits down has =
-    subst (λ (x : ReplicaKept). StandsAt config None count seen image state voter (record { setting = g; kept = x; live = None; opened = None })) is
-    (record {
-      setting = of_g;
-      spelled = views_ok notes all;
-      by = (
-        record {
-          ready = ready;
-          reads = rule_records (map note notes) seen reads ∙ views_record notes;
-          durable = λ c here. subst (λ (rs : List (List ℕ)). StandsFor rs c) (views_record notes) (subst (λ (b : List ℕ). StandsFor (map note notes) b) (sym (only c here)) reads);
-          count = omega (arith, counts, fits, length-map notes note_view);
-        },
-        knows_by voter.up voter (kept_of notes) down (ap kept_of has),
-      );
-    })
+down_stands config count seen image state voter notes k g of_g all is ready reads only counts fits down has = grind (arith, views_ok, rule_records, note, views_record, length-map, note_view, knows_by)
 
 -- ---- which notes a disk holds after a stop
 
@@ -131,10 +117,7 @@ landed_records k (Some n) r is = map-append vote_record k.notes (note_view n ∷
 
 -- an append leaves the kept notes, or those and the new one
 pub append_leaves : (k : ReplicaKept) (n : Option ReplicaNote) (f p : List ℕ) (seen c : List ℕ) → f ≡ p → Some p ≡ option_map note n → records seen ≡ records_of k → IsOldOrNew (records seen) f c → OnDiskOr k n c
-append_leaves k None f p seen c same e reads either = absurd (cc e)
-append_leaves k (Some n) f p seen c same e reads either =
-    let more : records seen ++ f ∷ [] ≡ records_of (land land_replica (noted (Some n)) k) = ap (λ (rs : List (List ℕ)). rs ++ f ∷ []) reads ∙ sym (landed_records k (Some n) f (cc (same, e))) in
-    ⊎_elim (λ old. inl (subst (λ (rs : List (List ℕ)). StandsFor rs c) reads old)) (λ new. inr (subst (λ (rs : List (List ℕ)). StandsFor rs c) more new)) either
+append_leaves k h f p seen c same e reads either = grind (arith, records, records_of, land, land_replica, landed_records)
 
 -- notes with spellings are notes
 un_all : (xs : List BallotNote) → Each IsVoted xs → All IsNote (map un_view xs)

@@ -36,9 +36,7 @@ ends config config' doubt doubt' kept kept' seen seen' image image' state state'
 pub stays_open : (config config' : Config) (doubt' : Option (List ℕ)) (kept' : ℕ) (seen' : List ℕ) (image' : List ℕ → Type 0) (state' : JournalState) (voter' : VoterView) (s t : ReplicaState) (n : ℕ) (b : Bytes) (i : Input) (turn : Turn)
     → s.setting.config ≡ config → Each IsVoted s.kept.notes → Leads replica_rows s (Begin n b) t → config' ≡ config → Reads s.setting b i → IsRow s.setting (row replica_rows s i) turn → Knows voter' s.kept s.live → HoldsOr doubt' turn.note kept' seen' image' state' s.kept
     → StandsAt config' doubt' kept' seen' image' state' voter' t
-stays_open config config' None kept' seen' image' state' voter' s t n b i turn of_s spelled led same reads is knows holds =
-    subst (λ (x : ReplicaState). StandsAt config' None kept' seen' image' state' voter' x) (sym led.2)
-    (record { setting = of_s ∙ sym same; spelled = spelled; by = (holds, knows) })
+stays_open config config' None kept' seen' image' state' voter' s t n b i turn of_s spelled led same reads is knows holds = grind arith
 stays_open config config' (Some r) kept' seen' image' state' voter' s t n b i turn of_s spelled led same reads is knows holds =
     subst (λ (x : ReplicaState). StandsAt config' (Some r) kept' seen' image' state' voter' x) (sym led.2)
     (record {
@@ -59,14 +57,7 @@ kept_opened s image images c opened = let held = images opened.0 opened.1 in (he
 -- a node that wasn't opened again stands where it stood
 pub still_down : (config config' : Config) (doubt doubt' : Option (List ℕ)) (kept kept' : ℕ) (seen seen' : List ℕ) (image image' : List ℕ → Type 0) (state state' : JournalState) (voter voter' : VoterView) (s : ReplicaState)
     → config' ≡ config → doubt' ≡ doubt → kept' ≡ kept → ((c : List ℕ) → image' c → IsOpened image c) → is_some doubt ≡ true → StandsAt config doubt kept seen image state voter s → StandsAt config' doubt' kept' seen' image' state' voter' s
-still_down config config' None doubt' kept kept' seen seen' image image' state state' voter voter' s same none counts opened waits at = absurd (cc waits)
-still_down config config' (Some r) doubt' kept kept' seen seen' image image' state state' voter voter' s same some counts opened waits at =
-    subst (λ (o : Option (List ℕ)). StandsAt config' o kept' seen' image' state' voter' s) (sym some)
-    (record {
-      setting = at.setting ∙ sym same;
-      spelled = at.spelled;
-      by = (record { images = λ c here. opened_either (records_of s.kept) r c image at.by.0.images (opened c here); count = counts ∙ at.by.0.count }, at.by.1);
-    })
+still_down config config' h doubt' kept kept' seen seen' image image' state state' voter voter' s same none counts opened waits at = grind (arith, opened_either)
 
 -- what the state keeps is notes
 pub kept_notes : (s : ReplicaState) (c : List ℕ) → Each IsVoted s.kept.notes → KeptOn s c → IsOfNotes c

@@ -1,5 +1,5 @@
 -- What a voter knows, and the rows of its turns.
-use Rattle.std.proofs.Common.{◌≡◌, Bool, true, false, List, Option, Some, None, sym, subst}
+use Rattle.std.proofs.Common.{◌≡◌, Bool, true, false, List, Option, Some, subst, arith}
 use Rattle.std.specs.Prelude.{IfOk, Result, Ok, Err}
 use Rattle.replica_node.proofs.Words.{ReplicaNote, Packet, Node, Input, Start, Deliver, IsPacket, Setting, IsInput, ReplicaKept, replica_start, replica_gets, IsRow, Stands, ReplicaCore, Turn, VoterView, KnowsAs, Fits, replica_rows}
 use Rattle.site_node.specs.States.{row_of}
@@ -10,11 +10,7 @@ both (Ok x) P Q p q = (p, q)
 both (Err e) P Q p q = tt
 
 pub start_row : (i : Input) (g : Setting) (k : ReplicaKept) (live : Option (Unit {0})) (turn : Turn) → i ≡ Start → Fits live i → IsRow g (replica_start k) turn → IsRow g (row_of replica_rows g k live i) turn
-start_row i g k live turn e fits row = subst (λ (j : Input). Fits live j → IsRow g (row_of replica_rows g k live j) turn) (sym e) (go live) fits
-  where
-    go : (l : Option (Unit {0})) → Fits l Start → IsRow g (row_of replica_rows g k l Start) turn
-    go None f = row
-    go (Some l) f = absurd f
+start_row i g k live turn e fits row = grind arith
 
 up_by : (u : Bool) (core : ReplicaCore) (notes : List ReplicaNote) (k : ReplicaKept) (l : Unit {0}) → KnowsAs u core notes k (Some l) → Stands core k
 up_by true core notes k l knows = knows
@@ -22,18 +18,10 @@ up_by false core notes k l knows = absurd knows
 
 -- a packet comes to a replica that is up
 pub up_at : (v : VoterView) (i : Input) (from : Node) (p : Packet) (k : ReplicaKept) (live : Option (Unit {0})) → i ≡ Deliver from p → Fits live i → Knows v k live → Stands v.core k
-up_at v i from p k live e fits knows = subst (λ (j : Input). Fits live j → Stands v.core k) (sym e) (go live knows) fits
-  where
-    go : (l : Option (Unit {0})) → Knows v k l → Fits l (Deliver from p) → Stands v.core k
-    go None kn f = absurd f
-    go (Some l) kn f = up_by v.up v.core v.notes k l kn
+up_at v i from p k live e fits knows = grind arith
 
 pub gets_row : (i : Input) (from : Node) (p : Packet) (g : Setting) (k : ReplicaKept) (live : Option (Unit {0})) (turn : Turn) → i ≡ Deliver from p → Fits live i → IsRow g (replica_gets k from p) turn → IsRow g (row_of replica_rows g k live i) turn
-gets_row i from p g k live turn e fits row = subst (λ (j : Input). Fits live j → IsRow g (row_of replica_rows g k live j) turn) (sym e) (go live) fits
-  where
-    go : (l : Option (Unit {0})) → Fits l (Deliver from p) → IsRow g (row_of replica_rows g k l (Deliver from p)) turn
-    go None f = absurd f
-    go (Some l) f = row
+gets_row i from p g k live turn e fits row = grind arith
 
 pub is_packet : (i : Input) (from : Node) (p : Packet) → i ≡ Deliver from p → IsInput i → IsPacket p
 is_packet i from p e is = subst IsInput e is

@@ -4,6 +4,7 @@ ghost use Rattle.retry_log.specs.declared.changing.Change.TheVariants.{Park, Set
 ghost use Rattle.gate_journal.specs.Fold.{kept_by};
 ghost use Rattle.retry_log.specs.Pending.{record_of, pending_of, retries};
 
+#[tactic(auto, unfolding(gate_journal::specs::Gate::reading))]
 /// What files keep pending.
 pub fn files()
     ensures none { pending_of (0 ∷ []) ≡ Ok [] }

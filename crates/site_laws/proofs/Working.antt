@@ -2,7 +2,7 @@
 use Rattle.std.proofs.Common.{◌≡◌, ◌≢◌, inr, ℕ, [], ◌∷◌, Option, Some, None, Result, Ok, refl, sym, ◌∙◌, ap, subst, lit<, lit≤, arith}
 use Rattle.outside.specs.declared.store.DiskName.{DiskName}
 use Rattle.outside.specs.declared.store.DiskName.TheVariants as name
-use Rattle.gate_journal.specs.Gate.{gate_rule, records, StandsFor}
+use Rattle.gate_journal.specs.Gate.{gate_rule, reading, records, StandsFor}
 use Rattle.gate_journal.specs.Fold.{read_as}
 use Rattle.topology_journal.specs.declared.topology.Topology.{Topology as KeptTopology}
 use Rattle.topology_journal.specs.Topologies as journal
@@ -43,6 +43,7 @@ no_others name.Topology other = absurd (other refl)
 no_others _ other = refl
 
 keeps_longer : KeepsTopology (Some (topology_of (with_row worked a_row))) (row_behind name.Topology)
+unfolding reading
 keeps_longer = refl
 
 module _ (whole : (g : Setting) → WholeSound g empty_store) (first : TopologyComesFirst) (one : KeepOneTopology) (fits : TopologyFits) (comes : TopologyIsFirst) where
@@ -58,21 +59,26 @@ module _ (whole : (g : Setting) → WholeSound g empty_store) (first : TopologyC
       b (λ disk is. refl)
 
   topology_sound : KeepSound worked (topology_alone 1)
+  unfolding reading
   topology_sound = alone_sound worked (topology_alone 1) (keeps_topology 1 (record { some = lit≤ tt; few = lit≤ tt }) refl) (no_bytes 1)
 
   row_sound : KeepSound (with_row worked a_row) row_behind
   row_sound = alone_sound (with_row worked a_row) row_behind keeps_longer no_others
 
   no_row : KeepSound (with_row worked a_row) (topology_alone 1) → ⊥
+  unfolding reading
   no_row x = grind arith
 
   another_row : KeepSound worked row_behind → ⊥
+  unfolding reading
   another_row x = grind arith
 
   other_topology : KeepSound worked (topology_alone 2) → ⊥
+  unfolding reading
   other_topology x = grind arith
 
   has_pair : records (pair_alone (name.Output 0 0)) ≡ record_of a_pair ∷ []
+  unfolding reading
   has_pair = refl
 
   pair_first : KeepSound worked pair_alone → ⊥

@@ -20,21 +20,15 @@ behind (suc m) n zero low high = absurd (omega (arith, low))
 behind (suc m) n (suc i) low high = behind m n i (omega (arith, low)) (omega (arith, high))
 
 are_joiners : (joiners replicas i : ℕ) → 4 + replicas ≤ i → i < 4 + replicas + 2 * joiners → kind_at (kinds_of joiners replicas) i ≡ kind.Joiner
-are_joiners joiners replicas zero low high = absurd (omega (arith, low))
-are_joiners joiners replicas (suc zero) low high = absurd (omega (arith, low))
-are_joiners joiners replicas (suc (suc zero)) low high = absurd (omega (arith, low))
-are_joiners joiners replicas (suc (suc (suc zero))) low high = absurd (omega (arith, low))
 are_joiners joiners replicas (suc (suc (suc (suc i)))) low high = behind replicas (2 * joiners) i (omega (arith, low)) (omega (arith, high))
+are_joiners joiners replicas _ low high = absurd (omega (arith, low))
 
 one_of : (g : Setting) (n : Node) → IsNode g n → is_replica (kind_at (kinds_of g.config.joiners g.config.replicas) (node_number n)) ≡ true → (r : ℕ) × (n ≡ Replica r)
-one_of g (Dispatcher zero) is at = absurd (cc at)
-one_of g (Dispatcher (suc zero)) is at = absurd (cc at)
 one_of g (Dispatcher (suc (suc s))) is at = absurd (omega (arith, is))
-one_of g (Server zero) is at = absurd (cc at)
-one_of g (Server (suc zero)) is at = absurd (cc at)
 one_of g (Server (suc (suc s))) is at = absurd (omega (arith, is))
 one_of g (Replica r) is at = (r, refl)
 one_of g (Joiner j) is at = absurd (cc (sym (ap is_replica (are_joiners g.config.joiners g.config.replicas j is.0 is.1)) ∙ at))
+one_of g _ is at = absurd (cc at)
 
 -- whoever is dead is a replica
 pub dead_replicas : (g : Setting) (plan : PlanView) (kinds : List Kind) → kinds ≡ kinds_of g.config.joiners g.config.replicas → DeadAreReplicas g plan kinds

@@ -1,13 +1,12 @@
 -- How far a node's epoch rises: by one at each of its starts, and it starts no more often than it has stopped, and once more.
-use Rattle.std.proofs.Common.{◌≡◌, inl, ⊎_elim, ℕ, suc, ◌+◌, ◌≤◌, List, [], ◌∷◌, ◌++◌, Bool, true, false, Option, None, Some, refl, sym, ap, ◌∙◌, subst, arith}
-use Rattle.std.specs.Prelude.{if◌then◌else◌}
+use Rattle.std.proofs.Common.{◌≡◌, inl, ⊎_elim, ℕ, suc, ◌+◌, ◌≤◌, List, [], ◌∷◌, ◌++◌, true, Option, None, Some, refl, sym, ap, ◌∙◌, subst, arith}
 use Rattle.std.proofs.lemmas.Bool.{eqb-true}
 use Rattle.air_bus.specs.declared.entry.Input.TheVariants.{Start}
 use Rattle.photon_model.proofs.JoinerRows as joining
 use Rattle.photon_model.proofs.ServerRows as serving
-use Rattle.photon_model.proofs.Words.{Answer, Duplicate, Granted, TooOld, Phase, Flight, Proposal, accepted, answers, joiner_turn, server_turn}
+use Rattle.photon_model.proofs.Words.{Phase, Proposal, accepted, answers, joiner_turn, server_turn}
 use Rattle.site_node.specs.States as states
-use Rattle.site_run.proofs.Words.{each_at, mem_right, BusEntry, Begin, End, Stop, Batch, Bytes, Disks, Dispatcher, Each, Server, Replica, Joiner, Input, Insert, JoinerKept, JoinerLive, Mem, Node, Note, Place, Rows, ServerKept, ServerLive, Setting, State, StateOf, ComesToLast, HasCome, IsAtLast, any_of, down_over, is_of, land, land_server, made_by, node_number, row_of, rows_of, stop_count}
+use Rattle.site_run.proofs.Words.{each_at, mem_right, BusEntry, Begin, End, Stop, Batch, Bytes, Disks, Dispatcher, Each, Server, Replica, Joiner, Input, JoinerKept, JoinerLive, Mem, Node, Note, Place, Rows, ServerKept, ServerLive, Setting, State, StateOf, ComesToLast, HasCome, IsAtLast, any_of, down_over, is_of, land, land_server, made_by, node_number, row_of, rows_of, stop_count}
 use Rattle.site_run.specs.AnyNodes.{StartsAt}
 use Rattle.turn_defs.specs.Joiner.{land_joiner}
 
@@ -32,22 +31,8 @@ server_quiet g site k l =
       refuses = λ r at b above p is current. refl;
     })
 
-answers_keep : (g : Setting) (j : ℕ) (k : JoinerKept) (l : JoinerLive) (x : Insert) (a : Answer) (f : Flight) → (land land_joiner (answers g j k l x f a).note k).epoch ≡ k.epoch
-answers_keep g j k l x Granted f = refl
-answers_keep g j k l x (Duplicate h) f = refl
-answers_keep g j k l x (TooOld b) f = refl
-
 joiner_keeps : (g : Setting) (j : ℕ) (k : JoinerKept) (l : JoinerLive) (i : Input) → (land land_joiner (joiner_turn g j k l i).note k).epoch ≡ k.epoch
-joiner_keeps g j k l =
-    joining.every_row g j k l (λ i o. (land land_joiner o.note k).epoch ≡ k.epoch)
-    (record {
-      idles = λ i. refl;
-      ticks = refl;
-      begins = λ from p c q free is. refl;
-      misses = λ from p c is. refl;
-      is_busy = λ from p c. refl;
-      is_answered = λ from x a f among is. answers_keep g j k l x a f;
-    })
+joiner_keeps g j k l = grind (arith, land)
 
 -- ---- a node's own entries
 
@@ -147,11 +132,7 @@ module _ {K L : Type 0} (rows : Rows K L) (epoch : K → ℕ) (starts : (k : K) 
 module _ (n : ℕ) where
   each_own : (h : List BusEntry) → Each (λ e. is_of n e ≡ true) (made_by n h)
   each_own [] = tt
-  each_own (e ∷ h) = with_it (is_of n e) refl (each_own h)
-    where
-      with_it : (b : Bool) → is_of n e ≡ b → Each (λ x. is_of n x ≡ true) (made_by n h) → Each (λ x. is_of n x ≡ true) (if b then e ∷ made_by n h else made_by n h)
-      with_it true own others = (own, others)
-      with_it false other others = others
+  each_own (e ∷ h) = grind (arith, is_of, each_own h)
 
   own_number : (h front : List BusEntry) (m : ℕ) (b : Bytes) → made_by n h ≡ front ++ Begin m b ∷ [] → made_by n h ≡ front ++ Begin n b ∷ []
   own_number h front m b is =
@@ -179,12 +160,7 @@ module _ (g : Setting) (d : Disks) (h : List BusEntry) where
       let most = risen.most in
       let none : up t.live ≡ 0 = ap (λ (o : Option L). up o) at.down in
       let is = at.keeps in
-      record {
-        starts = (begun.0, own_number n h begun.0 begun.1 Start begun.2);
-        last = at.last;
-        least = subst (λ k. epoch s.kept ≤ k) is least;
-        most = come_so (epoch s.kept) (stop_count (made_by n h)) (epoch t.kept) last (up t.live) most none is;
-      }
+      grind (arith, own_number, come_so, stop_count)
 
   pub comes_to_last : (n : Node) (u : StateOf n) (epoch : ℕ) → states.Path (rows_of n) (down_over g d n) (made_by (node_number n) h) u → IsAtLast (any_of n u) epoch → ComesToLast d h n epoch
   comes_to_last (Dispatcher s) u epoch path at = absurd at

@@ -79,11 +79,7 @@ module _ {N D : Type 0} (image : D → List ℕ → Type 0) (disks_of : ℕ → 
   pub all_gone_on : (vs ws : List N) → length ws ≡ length vs
       → ((i : ℕ) (a b : N) → i < length vs → HaveGoneOn image (disks_of i (slice_index_or vs i a)) (disks_of i (slice_index_or ws i b)))
       → HaveGoneOn image (all_from disks_of 0 vs) (all_from disks_of 0 ws)
-  all_gone_on vs ws count each =
-      from_on 0 vs ws count
-      (λ i j a b is below.
-      let same : i ≡ j = omega (arith, is) in
-      subst (λ n. HaveGoneOn image (disks_of n (slice_index_or vs i a)) (disks_of n (slice_index_or ws i b))) same (each i a b below))
+  all_gone_on vs ws count each = grind (arith, from_on)
 
   -- and where those of each node of a setting have
   pub all_nodes_gone_on : (g : Setting) → NumbersAreNodes g → (vs ws : List N) → length vs ≡ node_count g → length ws ≡ length vs

@@ -1,7 +1,7 @@
 -- The disks of a node that stands at a state hold what the state says.
-use Rattle.std.proofs.Common.{◌≡◌, ◌⊎◌, inl, inr, ⊎_elim, ℕ, Bool, ◌&&◌, List, Option, Some, None, refl, ap, ◌∙◌, arith}
+use Rattle.std.proofs.Common.{◌≡◌, ◌⊎◌, inl, inr, ℕ, Bool, ◌&&◌, List, Option, Some, None, refl, arith}
 use Rattle.std.specs.Prelude.{IsTrue}
-use Rattle.site_run.proofs.Words.{Node, Dispatcher, Server, Replica, Joiner, Input, Setting, node_number, Note, Out, land, State, MayHold, row_of, DispatcherState, ServerKept, ServerLive, land_server, SiteKept, ServerState, ReplicaState, JoinerState, StateOf, server_rows, OneOf, AnyState, any_of, with_site, StatesKeepVotes, HasSpelledNotes, HoldsAs, Config}
+use Rattle.site_run.proofs.Words.{Node, Dispatcher, Server, Replica, Joiner, Input, Setting, node_number, Note, land, State, MayHold, row_of, DispatcherState, ServerKept, ServerLive, land_server, SiteKept, ServerState, ReplicaState, JoinerState, StateOf, server_rows, OneOf, AnyState, any_of, with_site, StatesKeepVotes, HasSpelledNotes, HoldsAs, Config}
 use Rattle.dispatch_node.specs.Images as dispatcher
 use Rattle.registry_server.specs.Registrars as registrars
 use Rattle.registry_server.specs.Node as server
@@ -29,17 +29,7 @@ row_so s g k None i = refl
 row_so s g k (Some l) i = refl
 
 may_hold_so : (s : ℕ) (t : State ServerKept ServerLive) (k : SiteKept) → MayHold registrars.server_rows (with_site s t) k → MayHold (server_rows s) t k.disk
-may_hold_so s t k may =
-    ⊎_elim (λ same. inl (ap (λ (x : SiteKept). x.disk) same))
-    (λ more.
-    inr (
-      more.0,
-      more.1,
-      more.2,
-      more.3,
-      ap (λ (x : SiteKept). x.disk) more.4 ∙ ap (λ (o : Out ServerLive). (land registrars.server_rows.lands o.note (at_site s t.kept)).disk) (row_so s t.setting t.kept t.live more.1) ∙ lands_so s t.kept (row_of (server_rows s) t.setting t.kept t.live more.1).note,
-    ))
-    may
+may_hold_so s t k may = grind (arith, row_so)
 
 -- ---- a node of any kind
 

@@ -70,12 +70,9 @@ joins laws g before after h faulted js lines checked sound rest are =
 
 empty_keeps : (g : Setting) (disk : DiskName) → KeepsOf g empty_disks disk []
 empty_keeps g name.Topology = tt
-empty_keeps g (name.Offset s) = refl
-empty_keeps g (name.Retry s) = refl
-empty_keeps g (name.Server s) = refl
 empty_keeps g (name.Replica r) = (tt, refl)
-empty_keeps g (name.Epoch s j) = refl
 empty_keeps g (name.Output s j) = (All-nil IsPair, refl)
+empty_keeps g _ = refl
 
 -- replicas without records have accepted no insert
 none_accepted : (from n : ℕ) (x : Insert) → Mem x (inserts_of (values_from (λ k. []) from n)) → ⊥

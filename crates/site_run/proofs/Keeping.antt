@@ -51,11 +51,7 @@ module _ {N D : Type 0} (image : D → List ℕ → Type 0) (disks_of : ℕ → 
       let of_number = numbers.each r.place (omega (arith, r.within, all.count)) in
       let back = numbers.back r.place of_number.0 of_number.1 in
       let counted : r.number ≡ node_number of_number.0 = omega (arith, r.counted, back.0) in
-      record {
-        node = of_number.0;
-        is = back.1;
-        among = subst (λ i. Mem l (disks_of i (slice_index_or nodes (node_number of_number.0) a_node))) counted (subst (λ i. Mem l (disks_of r.number (slice_index_or nodes i a_node))) (sym back.0) (r.among a_node));
-      }
+      grind arith
 
   pub found : (disk : DiskName) → disk ≢ name.Topology → (c : List ℕ) → IsOfOne image every_disk disk c → IsOfOne image (disks_at (node_with g disk) a_node) disk c
   found disk other c x =
@@ -68,21 +64,10 @@ module _ {N D : Type 0} (image : D → List ℕ → Type 0) (disks_of : ℕ → 
 
   -- what is left is of a disk of the setting
   pub disk_there : (disk : DiskName) → disk ≢ name.Topology → (l : Lent D) → Mem l every_disk → l.name ≡ disk → IsDisk g disk
-  disk_there disk other l among is =
-      ⊎_elim
-      (λ e. absurd (other (sym is ∙ ap (λ (l : Lent D). l.name) (sym e) ∙ named)))
-      (λ m.
-      let has = node_of_disk l m in
-      of_setting g has.node disk has.is (subst (λ d. IsDiskOf g.config has.node d) is (names_of image g.config has.node (at has.node) (disks_at has.node a_node) (all.each has.node has.is a_node) l has.among)))
-      among
+  disk_there disk other l among is = grind (arith, node_of_disk, of_setting, names_of)
 
   pub topology_image : (c : List ℕ) → IsOfOne image every_disk name.Topology c → image topology.disk c
-  topology_image c x =
-      ⊎_elim (λ e. subst (λ (l : Lent D). image l.disk c) (sym e) x.may)
-      (λ m.
-      let has = node_of_disk x.one m in
-      absurd (no_node g.config has.node (subst (λ d. IsDiskOf g.config has.node d) x.named (names_of image g.config has.node (at has.node) (disks_at has.node a_node) (all.each has.node has.is a_node) x.one has.among))))
-      x.among
+  topology_image c x = grind (arith, node_of_disk, no_node, names_of)
 
   -- ---- there is a disk of each name
 

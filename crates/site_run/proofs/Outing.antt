@@ -75,11 +75,7 @@ module _ {D : Type 0} (left : D → List ℕ → Type 0) where
 
   -- disks that have gone on are out still
   pub gone_out : (before inside : Images) (topology : Lent D) (olds news : List (Lent D)) → HaveGoneOn left olds news → AreOut left before inside topology olds → AreOut left before inside topology news
-  gone_out before inside topology olds news gone out = record {
-    grown = out.grown;
-    went = each_gone before olds news gone out.went;
-    in_store = λ disk lacks. out.in_store disk (lacks.0, lacks_back disk olds news gone lacks.1);
-  }
+  gone_out before inside topology olds news gone out = grind (arith, each_gone, lacks_back)
 
   -- the same disks in another order
   pub may_moved : (inside : Images) (xs ys : List (Lent D)) → IsPermutation xs ys → (disk : DiskName) (c : List ℕ) → MayBeLeft left inside ys disk c → MayBeLeft left inside xs disk c

@@ -1,10 +1,9 @@
 -- Lists that are put together place by place, and whose disk a name is.
-use Rattle.std.proofs.Common.{◌≡◌, ⊎_elim, ℕ, zero, suc, ◌+◌, ◌*◌, ◌<◌, ◌≤◌, List, [], ◌∷◌, length, refl, sym, ap, ◌∙◌, subst, arith}
+use Rattle.std.proofs.Common.{◌≡◌, ⊎_elim, ℕ, zero, suc, ◌+◌, ◌<◌, List, [], ◌∷◌, length, subst, arith}
 use Rattle.std.specs.Prelude.{slice_index_or}
-use Rattle.site_run.proofs.Words.{Mem, Each, mem_left, mem_right, mem_split, each_at, DiskName, Node, Dispatcher, Server, Replica, Joiner, Setting, IsNode, Lent, StateOf, Config, count_of, site_of, all_from, HoldsAs}
+use Rattle.site_run.proofs.Words.{Mem, mem_left, mem_right, mem_split, DiskName, Node, Dispatcher, Server, Replica, Joiner, Setting, IsNode, Lent, StateOf, Config, site_of, all_from, HoldsAs}
 use Rattle.outside.specs.declared.store.DiskName.TheVariants as name
 use Rattle.site_run.specs.Naming.{joiner_of}
-use Rattle.site_run.proofs.Naming.{seat_of}
 use Rattle.site_laws.specs.Stores as stores
 
 -- ---- lists put together
@@ -53,50 +52,18 @@ node_with g (name.Replica r) = Replica r
 node_with g (name.Epoch s j) = Joiner (stores.joiner_of g s j)
 node_with g (name.Output s j) = Joiner (stores.joiner_of g s j)
 
-number_back : (c : Config) (n s j : ℕ) → 4 + c.replicas ≤ n → n < count_of c → s ≡ site_of c n → j ≡ joiner_of c n → 4 + c.replicas + s * c.joiners + j ≡ n
-number_back c n s j low high site joiner =
-    ap (λ x. 4 + c.replicas + x * c.joiners + j) site ∙ ap (λ y. 4 + c.replicas + site_of c n * c.joiners + y) joiner ∙ (seat_of c n low high).number
-
 -- a node whose disk has this name is that one
 pub owner : (g : Setting) (n : Node) (disk : DiskName) → IsNode g n → IsDiskOf g.config n disk → node_with g disk ≡ n
-owner g (Dispatcher s) (name.Offset t) is has = ap (λ x. Dispatcher x) has
-owner g (Dispatcher s) (name.Retry t) is has = ap (λ x. Dispatcher x) has
-owner g (Dispatcher s) _ is has = absurd has
-owner g (Server s) (name.Server t) is has = ap (λ x. Server x) has
-owner g (Server s) _ is has = absurd has
-owner g (Replica r) (name.Replica t) is has = ap (λ x. Replica x) has
-owner g (Replica r) _ is has = absurd has
-owner g (Joiner n) (name.Epoch s j) is has = ap (λ x. Joiner x) (number_back g.config n s j is.0 is.1 has.0 has.1)
-owner g (Joiner n) (name.Output s j) is has = ap (λ x. Joiner x) (number_back g.config n s j is.0 is.1 has.0 has.1)
-owner g (Joiner n) _ is has = absurd has
+owner g h k is has = grind arith
 
 -- and that name is one of the setting's
 pub of_setting : (g : Setting) (n : Node) (disk : DiskName) → IsNode g n → IsDiskOf g.config n disk → stores.IsDisk g disk
-of_setting g (Dispatcher s) (name.Offset t) is has = subst (λ k. k < 2) (sym has) is
-of_setting g (Dispatcher s) (name.Retry t) is has = subst (λ k. k < 2) (sym has) is
-of_setting g (Dispatcher s) _ is has = absurd has
-of_setting g (Server s) (name.Server t) is has = subst (λ k. k < 2) (sym has) is
-of_setting g (Server s) _ is has = absurd has
-of_setting g (Replica r) (name.Replica t) is has = subst (λ k. k < g.config.replicas) (sym has) is
-of_setting g (Replica r) _ is has = absurd has
-of_setting g (Joiner n) (name.Epoch s j) is has = let seat = seat_of g.config n is.0 is.1 in (subst (λ k. k < 2) (sym has.0) seat.site_below, subst (λ k. k < g.config.joiners) (sym has.1) seat.place_below)
-of_setting g (Joiner n) (name.Output s j) is has = let seat = seat_of g.config n is.0 is.1 in (subst (λ k. k < 2) (sym has.0) seat.site_below, subst (λ k. k < g.config.joiners) (sym has.1) seat.place_below)
-of_setting g (Joiner n) _ is has = absurd has
+of_setting g h k is has = grind arith
 
 -- no node has the topology's
 pub no_node : (config : Config) (n : Node) → IsDiskOf config n name.Topology → ⊥
-no_node config (Dispatcher s) has = has
-no_node config (Server s) has = has
-no_node config (Replica r) has = has
-no_node config (Joiner n) has = has
+no_node config h has = grind arith
 
 -- the disks of a node have its names
 pub names_of : {D : Type 0} (image : D → List ℕ → Type 0) (config : Config) (n : Node) (t : StateOf n) (lent : List (Lent D)) → HoldsAs image config n t lent → (l : Lent D) → Mem l lent → IsDiskOf config n l.name
-names_of {D} image config (Dispatcher s) t lent h l m =
-    let has = λ (x : Lent D). IsDiskOf config (Dispatcher s) x.name in each_at has lent (subst (Each has) (sym h.named) (refl, (refl, tt))) l m
-names_of {D} image config (Server s) t lent h l m =
-    let has = λ (x : Lent D). IsDiskOf config (Server s) x.name in each_at has lent (subst (Each has) (sym h.named) (omega arith, tt)) l m
-names_of {D} image config (Replica r) t lent h l m =
-    let has = λ (x : Lent D). IsDiskOf config (Replica r) x.name in each_at has lent (subst (Each has) (sym h.named) (omega arith, tt)) l m
-names_of {D} image config (Joiner n) t lent h l m =
-    let has = λ (x : Lent D). IsDiskOf config (Joiner n) x.name in each_at has lent (subst (Each has) (sym h.named) ((refl, refl), ((refl, refl), tt))) l m
+names_of {D} image config k t lent h l m = grind arith

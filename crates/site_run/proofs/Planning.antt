@@ -1,7 +1,7 @@
 -- A run by the stops that are planned for the disks of its nodes.
 use Rattle.std.specs.Prelude.{IfErr, IfSome, Result}
 use Rattle.std.specs.List.{All}
-use Rattle.std.proofs.Common.{◌≡◌, ◌≢◌, ℕ, ◌+◌, ◌-◌, ◌<◌, ◌≤◌, Bool, false, List, [], ◌∷◌, length, map, Option, None, Some, slice_index_or, refl, sym, ◌∙◌, ap, subst, arith}
+use Rattle.std.proofs.Common.{◌≡◌, ◌≢◌, ℕ, ◌+◌, ◌<◌, ◌≤◌, Bool, false, List, [], ◌∷◌, length, map, Option, None, Some, slice_index_or, refl, sym, ◌∙◌, ap, subst, arith}
 use Rattle.outside.specs.Plans.{AtMost}
 use Rattle.outside.specs.declared.store.DiskName.{DiskName}
 use Rattle.outside.specs.declared.store.DiskName.TheVariants as name
@@ -17,7 +17,7 @@ use Rattle.site_workers.specs.FourKinds as one
 use Rattle.site_workers.specs.declared.one_of.OneOf.TheVariants as node
 use Rattle.site_run.specs.Naming.{names_of, joiner_of}
 use Rattle.site_run.specs.Stops.{AllInAll, ArePlanned, AreSpared, RunsAsPlanned, StopsAsPlanned}
-use Rattle.site_run.proofs.Words.{list_any, Each, Mem, each_at, each_from, AreUp, HasMet, RunFault, first_fault, of_node, Lent, OneOf, BusEntry, Begin, End, Stop, NodeFault, Setting, Disks, Node, Dispatcher, Server, Replica, Joiner, IsNode, NumbersAreNodes, StateOf, AnyState, node_number, node_count, down_over, made_by, all_from, site_of, is_stop, stop_count, HoldsAs, AreHeld, AreDownOver, NoJoinerStopped, RunLog, Config}
+use Rattle.site_run.proofs.Words.{list_any, Each, Mem, each_at, each_from, AreUp, HasMet, RunFault, first_fault, of_node, Lent, OneOf, BusEntry, Begin, End, Stop, NodeFault, Setting, Disks, Node, Joiner, IsNode, NumbersAreNodes, StateOf, AnyState, node_number, node_count, down_over, made_by, all_from, site_of, is_stop, stop_count, HoldsAs, AreHeld, AreDownOver, NoJoinerStopped, RunLog, Config}
 use Rattle.site_run.proofs.Going.{disks_by}
 use Rattle.site_run.proofs.Places.{at_place, from_place}
 use Rattle.site_run.proofs.Running.{some_of, told_of_node}
@@ -68,10 +68,7 @@ none_planned o left soon g before after r none calm spared = record { stops = su
 -- ---- a node's disks, by what is planned under their names
 
 named_so : {D : Type 0} (image : D → List ℕ → Type 0) (config : Config) (n : Node) (t : StateOf n) (lent : List (Lent D)) → HoldsAs image config n t lent → map (λ (l : Lent D). l.name) lent ≡ names_of config n
-named_so {D} image config (Dispatcher s) t lent holds = ap (map (λ (l : Lent D). l.name)) holds.named
-named_so {D} image config (Server s) t lent holds = let same : 2 + s - 2 ≡ s = omega arith in ap (map (λ (l : Lent D). l.name)) holds.named ∙ ap (λ k. name.Server k ∷ []) same
-named_so {D} image config (Replica r) t lent holds = let same : 4 + r - 4 ≡ r = omega arith in ap (map (λ (l : Lent D). l.name)) holds.named ∙ ap (λ k. name.Replica k ∷ []) same
-named_so {D} image config (Joiner j) t lent holds = ap (map (λ (l : Lent D). l.name)) holds.named
+named_so {D} image config h t lent holds = grind arith
 
 -- a node that stopped once at most names no place of the store
 not_ended : (config : Config) (number : ℕ) (nf : NodeFault) (left stops : ℕ) → left + stops + open_stops (Some nf) ≤ 1 → (nf ≡ node_fault.Stopped → stops ≡ 8) → (at : StorePlace) → of_node config number nf ≢ fault.Store at

@@ -26,12 +26,9 @@ small g = record g { config = record g.config { replicas = 1; joiners = 1 } }
 
 two_held : (g : Setting) (k : ReplicaKept) (ps : List PairRec) (votes pairs : List ℕ) → KeepsVotes k votes → KeepsPairs ps pairs → HoldsRecords g (two_disks votes pairs) (two_records k ps)
 two_held g k ps votes pairs a b name.Topology is = tt
-two_held g k ps votes pairs a b (name.Offset s) is = refl
-two_held g k ps votes pairs a b (name.Retry s) is = refl
-two_held g k ps votes pairs a b (name.Server s) is = refl
 two_held g k ps votes pairs a b (name.Replica r) is = a
-two_held g k ps votes pairs a b (name.Epoch s j) is = refl
 two_held g k ps votes pairs a b (name.Output s j) is = b
+two_held g k ps votes pairs a b _ is = refl
 
 no_pairs : KeepsPairs [] []
 no_pairs = (All-nil IsPair, refl)
@@ -68,11 +65,7 @@ module _ {D V : Type 0} (image : D → List ℕ → Type 0) (keeps : V → List 
   read_as tells on reads view one [] (v ∷ values) lists h k = absurd h
   read_as tells on reads view one (d ∷ disks) [] lists h k = absurd h
   read_as tells on reads view one (d ∷ disks) (v ∷ values) [] h k = absurd k
-  read_as tells on reads view one (d ∷ disks) (v ∷ values) (ws ∷ lists) h k =
-      let here = k.0 on in
-      let first : view ws ≡ v = one ws v here.0 here.2 (h.0 here.0 here.1) in
-      let rest : map view lists ≡ values = read_as tells on reads view one disks values lists h.1 k.1 in
-      ap (λ x. x ∷ map view lists) first ∙ ap (λ xs. v ∷ xs) rest
+  read_as tells on reads view one (d ∷ disks) (v ∷ values) (ws ∷ lists) h k = grind (arith, read_as tells on reads view one disks values lists h.1 k.1)
 
   module _ (p : DiskName → Bool) where
     abbrev chosen : List (Lent D) → List (Lent D)
@@ -80,9 +73,7 @@ module _ {D V : Type 0} (image : D → List ℕ → Type 0) (keeps : V → List 
 
     -- those behind others
     joined : (xs ys : List (Lent D)) (as_ bs : List V) → KeepValues (chosen xs) as_ → KeepValues (chosen ys) bs → KeepValues (chosen (xs ++ ys)) (as_ ++ bs)
-    joined xs ys as_ bs a b =
-        subst (λ (l : List (Lent D)). KeepValues l (as_ ++ bs)) (sym (filter-append (λ (d : Lent D). p d.name) xs ys))
-        (each_with_append (λ (d : Lent D) (v : V). (c : List ℕ) → image d.disk c → keeps v c) (chosen xs) (chosen ys) as_ bs a b)
+    joined xs ys as_ bs a b = grind (arith, filter-append, each_with_append)
 
     -- the disks of nodes from this number on, each of which keeps the values of its number
     from_number : {N : Type 0} (disks_of : ℕ → N → List (Lent D)) (values : ℕ → List V) (i : ℕ) (ns : List N)
@@ -104,10 +95,7 @@ spread_all f i [] = refl
 spread_all f i (n ∷ ns) = ap (λ vs. f i ++ vs) (spread_all f (suc i) ns)
 
 spread_split : {V : Type 0} (f : ℕ → List V) (m n i total next : ℕ) → total ≡ m + n → next ≡ i + m → spread f i total ≡ spread f i m ++ spread f next n
-spread_split f zero n i total next all to =
-    let same : total ≡ n = omega (arith, all) in
-    let here : i ≡ next = omega (arith, to) in
-    ap (spread f i) same ∙ ap (λ k. spread f k n) here
+spread_split f zero n i total next all to = grind arith
 spread_split f (suc m) n i zero next all to = absurd (omega (arith, all))
 spread_split f (suc m) n i (suc total) next all to =
     ap (λ vs. f i ++ vs) (spread_split f m n (suc i) total next (omega (arith, all)) (omega (arith, to))) ∙ sym (append_assoc (f i) (spread f (suc i) m) (spread f next n))
@@ -207,16 +195,12 @@ module _ {D : Type 0} (image : D → List ℕ → Type 0) (config : Config) wher
   HavePairs values lent = KeepValues image KeepsPairs (chosen image KeepsPairs is_output lent) values
 
   notes_in : (n : Node) (t : StateOf n) (lent : List (Lent D)) → KeepsAs image config n t lent → HaveNotes (its_notes n t.kept) lent
-  notes_in (Dispatcher s) t lent h = subst (HaveNotes []) (sym h.named) tt
-  notes_in (Server s) t lent h = subst (HaveNotes []) (sym h.named) tt
   notes_in (Replica r) t lent h = subst (HaveNotes (t.kept.notes ∷ [])) (sym h.named) (h.votes, tt)
-  notes_in (Joiner j) t lent h = subst (HaveNotes []) (sym h.named) tt
+  notes_in _ t lent h = subst (HaveNotes []) (sym h.named) tt
 
   pairs_in : (n : Node) (t : StateOf n) (lent : List (Lent D)) → KeepsAs image config n t lent → HavePairs (its_pairs n t.kept) lent
-  pairs_in (Dispatcher s) t lent h = subst (HavePairs []) (sym h.named) tt
-  pairs_in (Server s) t lent h = subst (HavePairs []) (sym h.named) tt
-  pairs_in (Replica r) t lent h = subst (HavePairs []) (sym h.named) tt
   pairs_in (Joiner j) t lent h = subst (HavePairs (t.kept.pairs ∷ [])) (sym h.named) (h.pairs, tt)
+  pairs_in _ t lent h = subst (HavePairs []) (sym h.named) tt
 
 map_same : {A : Type 0} (xs : List A) → map (λ x. x) xs ≡ xs
 map_same [] = refl

@@ -1,6 +1,6 @@
 -- What nodes at rest keep, by the name of each disk, and what is read back of it.
-use Rattle.std.proofs.Common.{◌≡◌, inl, ℕ, ◌<◌, List, ◌∷◌, slice_index_or, refl, sym, subst}
-use Rattle.site_run.proofs.Words.{DiskName, Node, Dispatcher, Server, Replica, Joiner, Setting, IsNode, NumbersAreNodes, node_number, DispatcherKept, JoinerKept, ServerKept, ReplicaKept, KeepsOffset, KeepsPending, KeepsEpoch, KeepsPairs, Disks, Lent, IsOfOne, StateOf, kept_of, all_from, IsDisk, KeepsOf, KeepsVotes, joiner_of, is_joiner, HoldsAs, AllHold, KeepsAs, AllKeep, Config}
+use Rattle.std.proofs.Common.{◌≡◌, inl, ℕ, ◌<◌, List, ◌∷◌, refl, sym, subst, arith}
+use Rattle.site_run.proofs.Words.{DiskName, Node, Dispatcher, Server, Replica, Joiner, Setting, IsNode, NumbersAreNodes, DispatcherKept, JoinerKept, ServerKept, ReplicaKept, KeepsOffset, KeepsPending, KeepsEpoch, KeepsPairs, Disks, Lent, IsOfOne, StateOf, kept_of, all_from, IsDisk, KeepsOf, KeepsVotes, joiner_of, is_joiner, HoldsAs, AllHold, KeepsAs, AllKeep, Config}
 use Rattle.outside.specs.declared.store.DiskName.TheVariants as name
 use Rattle.site_run.proofs.Keeping.{found, first_image, second_image, only_image, a_node}
 
@@ -13,10 +13,7 @@ keeps_hold image config (Joiner j) t lent k = record { epochs = k.epochs; output
 
 module _ {N D : Type 0} (image : D → List ℕ → Type 0) (disks_of : ℕ → N → List (Lent D)) (g : Setting) (at : (n : Node) → StateOf n) (nodes : List N) where
   pub all_hold : AllKeep image disks_of g at nodes → AllHold image disks_of g at nodes
-  all_hold all = record {
-    count = all.count;
-    each = λ n is a. keeps_hold image g.config n (at n) (disks_of (node_number n) (slice_index_or nodes (node_number n) a)) (all.each n is a);
-  }
+  all_hold all = grind (arith, keeps_hold)
 
   module _ (topology : Lent D) (numbers : NumbersAreNodes g) (all : AllKeep image disks_of g at nodes) (named : topology.name ≡ name.Topology)
       (d : Disks) (same : (n : Node) → IsNode g n → kept_of d n ≡ (at n).kept) where

@@ -1,7 +1,7 @@
 -- Why a run over a store gives up, from what opening it tells and what a run of its nodes does.
-use Rattle.std.specs.Prelude.{IsTrue, IfSome, IsSomeAnd, Result, Ok, Err, OnOk, IfErr, ⊤}
+use Rattle.std.specs.Prelude.{IsTrue, IfSome, IsSomeAnd, Result, Ok, Err, OnOk, IfErr}
 use Rattle.std.proofs.Common.{◌≡◌, ◌≢◌, inl, inr, ⊎_elim, ℕ, ◌==◌, if◌then◌else◌, List, [], ◌∷◌, map, Bool, true, false, Option, Some, None, refl, sym, ◌∙◌, ap, subst, arith}
-use Rattle.site_run.proofs.Words.{eq-eqb, Each, Mem, each_at, BusEntry, DiskName, StoreFault, Topology, end_from, Dispatcher, Server, Replica, Joiner, Node, IsNode, node_number, Setting, IsLogOf, Disks, RunFault, Misplaced, IsCounted, IsWelcome, of_place, limit_at, limit_in, IsKeptIn, IsJournalOf, other_names, Images, IsDisk, joiner_of, place_at, site_of, IsAsked, EpochIs, KeepsEpoch, KeptDisk, KeptEpoch, KeptValues, Says, AreRecordsOf, all_named, at_name, was_journal, AreTold, ArePassed, HasCause, HasFailed, IsCause, IsUnread, cause_more, failed_rose, passed_more, unread_rose, asked_of, HasPassed, IsCauseOf, IsLate, IsNearLast, IsOfRun, IsSpent, KeptAreJournals, NamesFailed, RunLog, TellsPlaces, disk_of}
+use Rattle.site_run.proofs.Words.{eq-eqb, Each, Mem, each_at, BusEntry, DiskName, StoreFault, Topology, end_from, Dispatcher, Server, Replica, Joiner, Node, IsNode, node_number, Setting, IsLogOf, Disks, RunFault, Misplaced, IsCounted, IsWelcome, of_place, limit_at, limit_in, IsKeptIn, IsJournalOf, other_names, Images, IsDisk, joiner_of, place_at, site_of, IsAsked, EpochIs, KeepsEpoch, KeptDisk, KeptEpoch, KeptValues, Says, AreRecordsOf, all_named, at_name, was_journal, AreTold, ArePassed, IsCause, cause_more, failed_rose, passed_more, unread_rose, asked_of, HasPassed, IsCauseOf, IsLate, IsNearLast, IsOfRun, IsSpent, KeptAreJournals, NamesFailed, RunLog, TellsPlaces, disk_of}
 use Rattle.outside.specs.declared.store.DiskName.TheVariants as name
 use Rattle.outside.specs.declared.faults.StoreFault.TheVariants as store
 use Rattle.run_fault.specs.declared.fault.StorePlace.{StorePlace}
@@ -41,13 +41,7 @@ module _ (g : Setting) (before : Images) (asked : Topology) (is : IsAsked asked 
   passed_so k are passed = grind (arith, same_asked, passed_more, over_log)
 
   pub refused_so : (rose store_rose read faulted : Type 0) → (rose → read) → (store_rose → faulted) → (f : RunFault) → IsCause tells before replicas store_rose log_tells log end_ rose (Some asked) f → IsCauseOf g before read faulted f
-  refused_so rose store_rose read faulted to_read to_faulted f cause =
-      subst (λ t. HasCause t before g.config.replicas (Some (asked_of g)) (TellsPlaces g) (λ l. read) (λ at. faulted) (IsLate g before faulted f) ⊤ f) sure
-      (subst (λ (a : Topology). HasCause tells before g.config.replicas (Some a) (TellsPlaces g) (λ l. read) (λ at. faulted) (IsLate g before faulted f) ⊤ f) same_asked
-      (subst (λ n. HasCause tells before n (Some asked) (TellsPlaces g) (λ l. read) (λ at. faulted) (IsLate g before faulted f) ⊤ f) (sym count)
-      (cause_more tells replicas (Some asked) before before (λ disk c now. now) (AreTold log_tells log end_) (TellsPlaces g) over_log
-      (IsUnread tells before replicas (Some asked) (AreTold log_tells log end_) rose) (λ l. read) (HasFailed tells before replicas (Some asked) (AreTold log_tells log end_) store_rose) (λ at. faulted) ⊥ (IsLate g before faulted f) ⊥ ⊤
-      (λ l is. to_read (unread_rose tells before replicas (Some asked) (AreTold log_tells log end_) rose l is)) (λ at is. to_faulted (failed_rose tells before replicas (Some asked) (AreTold log_tells log end_) store_rose at is)) (λ x. absurd x) (λ x. absurd x) f cause)))
+  refused_so rose store_rose read faulted to_read to_faulted f cause = grind (arith, asked_of, same_asked, cause_more, over_log, unread_rose)
 
 -- its count rose, of the logs or of the disks
 pub refusal_counted : (tells : Bool) (before : Images) (replicas : ℕ) (rose : Type 0) (log_tells : Bool) (log : List ℕ) (end_ : ℕ) (read : Type 0) (asked : Option Topology) (logs stores : Type 0) → (read → logs) → (rose → stores)

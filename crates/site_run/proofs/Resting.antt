@@ -84,8 +84,6 @@ module _ {D A B C E : Type 0} (image : D → List ℕ → Type 0) (offset retry 
 module _ {A B C E : Type 0} (a_stands : A → DispatcherState → Type 0) (b_stands : B → ServerState → Type 0) (c_stands : C → ReplicaState → Type 0) (e_stands : E → JoinerState → Type 0) where
   pub notes_spelled : ((v : C) (s : ReplicaState) → c_stands v s → Each IsVoted s.kept.notes) → (n : Node) (t : StateOf n) (v : OneOf A B C E)
       → one.at a_stands b_stands c_stands e_stands v (any_of n t) → HasSpelledNotes n t
-  notes_spelled voted (Dispatcher s) t v at = tt
-  notes_spelled voted (Server s) t v at = tt
   notes_spelled voted (Replica r) t (node.Third v) at = voted v t at
   notes_spelled voted (Replica r) t _ at = absurd at
-  notes_spelled voted (Joiner j) t v at = tt
+  notes_spelled voted _ t v at = tt

@@ -1,7 +1,7 @@
 -- From what a run leaves of each node to what it leaves of the store.
 use Rattle.std.specs.Prelude.{IsTrue, IsSome, option_map}
 use Rattle.std.proofs.Common.{◌≡◌, ◌≢◌, inl, inr, ⊎_elim, ℕ, zero, suc, ◌+◌, ◌<◌, ◌≤◌, List, [], ◌∷◌, ◌++◌, length, map, slice_index_or, Bool, true, false, Option, None, Some, refl, sym, ap, ◌∙◌, subst, arith, length-append}
-use Rattle.site_run.proofs.Words.{list_any, Mem, some_same, is_in_turn, DiskName, NamesFailed, disk_of, is_read, BusEntry, Begin, End, Stop, Bytes, Busy, Node, Dispatcher, Server, Replica, Joiner, Setting, IsNode, NumbersAreNodes, node_number, node_count, phase_by, NodeFault, World, Disks, disks, world_after, opening, NoJoinerStops, AreOf, RunFault, damaged_by, IsJournalOf, undamaged, Lent, IsOfOne, MayBeLeft, GoesOn, StateOf, kept_of, cell_of, made_by, HasMet, IsCaused, is_stop, stop_count, AreCaused, HasFault, AnyState, any_of, any_phase, IsRunFrom, HaveGrown, ComesToLast, all_from, topology_of, Images, IsDisk, AreKept, KeepsOf, KeepsTopology, Journals, Config, votes_are_notes, IsCounted, of_node, IsOfDisks, IsOfRun, IsSpent, RunLog, HoldsAs, HaveGoneOn, AllHold, AreHeld, AreMet, IsLeftBy, KeepsItsRecord, NoneStops, HasRun, HasRested, AreOut, IsClosed, KeepsAs, AllKeep, KeepsPairs, KeepsNotes, HoldSameRecords, ReadNotesAreKept, told_of, or_else, first_fault, lent_replicas, lent_outputs, AreKeptIn}
+use Rattle.site_run.proofs.Words.{list_any, Mem, some_same, is_in_turn, DiskName, NamesFailed, disk_of, is_read, BusEntry, Begin, End, Stop, Bytes, Busy, Node, Dispatcher, Server, Replica, Setting, IsNode, NumbersAreNodes, node_number, node_count, phase_by, NodeFault, World, Disks, disks, world_after, opening, NoJoinerStops, AreOf, RunFault, damaged_by, IsJournalOf, undamaged, Lent, IsOfOne, MayBeLeft, GoesOn, StateOf, kept_of, cell_of, made_by, HasMet, IsCaused, is_stop, stop_count, AreCaused, HasFault, AnyState, any_of, any_phase, IsRunFrom, HaveGrown, ComesToLast, all_from, topology_of, Images, IsDisk, AreKept, KeepsOf, KeepsTopology, Journals, Config, votes_are_notes, IsCounted, of_node, IsOfDisks, IsOfRun, IsSpent, RunLog, HoldsAs, HaveGoneOn, AllHold, AreHeld, AreMet, IsLeftBy, KeepsItsRecord, NoneStops, HasRun, HasRested, AreOut, IsClosed, KeepsAs, AllKeep, KeepsPairs, KeepsNotes, HoldSameRecords, ReadNotesAreKept, told_of, or_else, first_fault, lent_replicas, lent_outputs, AreKeptIn}
 use Rattle.outside.specs.declared.store.DiskName.TheVariants as name
 use Rattle.site_node.specs.declared.kind.NodeFault.TheVariants as node
 use Rattle.run_fault.specs.declared.fault.StorePlace.TheVariants as at
@@ -27,15 +27,11 @@ closed_by live (Some b) is = absurd (is refl)
 
 closed_of : (n : Node) (t : StateOf n) → any_phase (any_of n t) ≢ Busy → IsClosed n t
 closed_of (Dispatcher s) t is = closed_by t.live t.opened is
-closed_of (Server s) t is = closed_by t.live t.opened is
-closed_of (Replica r) t is = closed_by t.live t.opened is
-closed_of (Joiner j) t is = closed_by t.live t.opened is
+closed_of _ t is = closed_by t.live t.opened is
 
 kept_same : (w : World) (n : Node) → kept_of (disks w) n ≡ (cell_of w n).kept
 kept_same w (Dispatcher s) = refl
-kept_same w (Server s) = refl
-kept_same w (Replica r) = refl
-kept_same w (Joiner j) = refl
+kept_same w _ = refl
 
 pub some_of : {A : Type 0} (xs : List A) → 0 < length xs → A
 some_of [] l = absurd (omega (arith, l))
@@ -112,12 +108,8 @@ topology_kept t c keeps = (option_map (λ (u : Topology). journal.topology_of u.
 -- and what a disk of records keeps
 journal_of : (g : Setting) (d : Disks) (disk : DiskName) → disk ≢ name.Topology → IsDisk g disk → (c : List ℕ) → KeepsOf g d disk c → IsJournalOf disk c
 journal_of g d name.Topology other is c keeps = absurd (other refl)
-journal_of g d (name.Offset s) other is c keeps = (_, keeps)
-journal_of g d (name.Retry s) other is c keeps = (_, keeps)
-journal_of g d (name.Server s) other is c keeps = (_, keeps)
 journal_of g d (name.Replica r) other is c keeps = (_, votes_are_notes (d.replicas r) c keeps)
-journal_of g d (name.Epoch s j) other is c keeps = (_, keeps)
-journal_of g d (name.Output s j) other is c keeps = (_, keeps)
+journal_of g d _ other is c keeps = (_, keeps)
 
 -- ---- what a run leaves
 
@@ -377,11 +369,7 @@ disks_alone tells image lent disks_rose P f n of is = absurd (subst (IsOfDisks t
 
 node_named : (config : Config) (n k : ℕ) (nf : NodeFault) → run.Store (at.Node n) ≡ of_node config k nf → (nf ≡ node.Stopped) × (n ≡ k)
 node_named config n k node.Stopped is = (refl, cc)
-node_named config n k (node.Disk disk) is = absurd (cc is)
-node_named config n k (node.Damaged disk place) is = absurd (cc is)
-node_named config n k node.Read is = absurd (cc is)
-node_named config n k (node.Spent epoch) is = absurd (cc is)
-node_named config n k node.Memory is = absurd (cc is)
+node_named config n k _ is = absurd (cc is)
 
 -- it is of one whose work has ended so
 pub first_ended : {N : Type 0} (faults : N → ℕ) (waits : N → Bool) (config : Config) (h : List BusEntry) (ws : List (N × Option NodeFault)) → ((i : ℕ) (b : N × Option NodeFault) → i < length ws → HasMet faults waits (slice_index_or ws i b).0 (slice_index_or ws i b).1 (made_by i h))

@@ -1,6 +1,6 @@
 -- What leads a node of any kind on leads the node of the system on.
-use Rattle.std.proofs.Common.{◌≡◌, inl, inr, ⊎_elim, ℕ, List, [], ◌∷◌, Option, Some, None, refl, sym, ap, ◌∙◌, subst}
-use Rattle.site_run.proofs.Words.{Entry, Begin, End, Stop, Bytes, Node, Dispatcher, Server, Replica, Joiner, Input, Setting, Addressed, Note, Out, land, IsNoted, State, Leads, IsDone, Ends, row, row_of, written, closes, opens, DispatcherState, SiteLeads, ServerKept, ServerLive, land_server, SiteKept, ServerState, JoinerState, LeadsTo, JoinerKept, JoinerLive, DispatcherKept, DispatcherLive, StateOf, rows_of, server_rows, Path, AnyState, AnyLeads, any_of, with_site}
+use Rattle.std.proofs.Common.{◌≡◌, inl, inr, ⊎_elim, ℕ, List, [], ◌∷◌, Option, Some, None, refl, sym, ap, ◌∙◌, subst, arith}
+use Rattle.site_run.proofs.Words.{Entry, Begin, End, Stop, Bytes, Node, Dispatcher, Server, Replica, Joiner, Input, Setting, Note, Out, land, IsNoted, State, Leads, IsDone, Ends, row, row_of, written, closes, opens, DispatcherState, SiteLeads, ServerKept, ServerLive, land_server, SiteKept, ServerState, JoinerState, LeadsTo, JoinerKept, JoinerLive, DispatcherKept, DispatcherLive, StateOf, rows_of, server_rows, Path, AnyState, AnyLeads, any_of, with_site}
 use Rattle.site_node.specs.States as states
 use Rattle.registry_server.specs.Registrars as registrars
 
@@ -28,20 +28,7 @@ module _ (s : ℕ) (t : State ServerKept ServerLive) where
   Here e u = (v : State ServerKept ServerLive) × (u ≡ with_site s v) × Leads (server_rows s) t e v
 
   ends_done : (b : Bytes) (note : Option (List ℕ)) (ps : List (ℕ × List ℕ)) (u : ServerState) (i : Input) → IsDone registrars.server_rows there i note ps u → (v : State ServerKept ServerLive) × (u ≡ with_site s v) × IsDone (server_rows s) t i note ps v
-  ends_done b note ps u i d =
-      let o = row (server_rows s) t i in (
-        closes t (written (server_rows s) t i) (Some o.live),
-        d.state
-            ∙ ap (λ (k : SiteKept). closes there k (Some (row registrars.server_rows there i).live)) (same_written i)
-            ∙ ap (λ (x : Out ServerLive). closes there (record { site = s; disk = written (server_rows s) t i }) (Some x.live)) (same_row i),
-        record {
-          noted = subst (λ (x : Out ServerLive). IsNoted x.note note) (same_row i) d.noted;
-          packets = d.packets;
-          spelled = d.spelled;
-          sent = subst (λ (x : Out ServerLive). Addressed t.setting x.packets d.packets) (same_row i) d.sent;
-          state = refl;
-        },
-      )
+  ends_done b note ps u i d = grind (arith, same_written)
 
   ends_so : (b : Bytes) (note : Option (List ℕ)) (ps : List (ℕ × List ℕ)) (u : ServerState) → Ends registrars.server_rows there b note ps u → (v : State ServerKept ServerLive) × (u ≡ with_site s v) × Ends (server_rows s) t b note ps v
   ends_so b note ps u ends =
@@ -82,17 +69,10 @@ of_joiner j t e u l = (u.node, ap (λ k. inr (inr (record { number = k; node = u
 
 pub one : (n : Node) (t : StateOf n) (e : Entry) (u : AnyState) → AnyLeads (any_of n t) e u → Goes n t e u
 one (Dispatcher s) t e (inl (inl d)) l = of_dispatcher s t e d l
-one (Dispatcher s) t e (inl (inr d)) l = absurd l
-one (Dispatcher s) t e (inr d) l = absurd l
-one (Server s) t e (inl (inl d)) l = absurd l
 one (Server s) t e (inl (inr d)) l = of_server s t e d l
-one (Server s) t e (inr d) l = absurd l
-one (Replica r) t e (inl d) l = absurd l
 one (Replica r) t e (inr (inl d)) l = (d, refl, l)
-one (Replica r) t e (inr (inr d)) l = absurd l
-one (Joiner j) t e (inl d) l = absurd l
-one (Joiner j) t e (inr (inl d)) l = absurd l
 one (Joiner j) t e (inr (inr d)) l = of_joiner j t e d l
+one _ t e _ l = absurd l
 
 -- ---- all entries of a node
 

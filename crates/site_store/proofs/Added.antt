@@ -1,16 +1,13 @@
 -- A row behind those of the kept table: what is answered, and what it makes of a sound store.
-use Rattle.std.proofs.Common.{◌≡◌, ◌≢◌, ◌⊎◌, inl, inr, ⊎_elim, ℕ, List, [], ◌∷◌, ◌++◌, map, Bool, true, ◌&&◌, IsTrue, Option, Some, None, Result, Ok, Err, refl, sym, ◌∙◌, ap, subst, arith}
-use Rattle.std.specs.Prelude.{IfSome}
+use Rattle.std.proofs.Common.{◌≡◌, ◌≢◌, ◌⊎◌, inl, inr, ⊎_elim, ℕ, List, [], ◌∷◌, ◌++◌, map, Bool, IsTrue, Option, Some, None, Result, Ok, Err, refl, sym, ◌∙◌, ap, subst, arith}
 use Rattle.time_shards.specs.declared.ShardRow.{ShardRow}
 use Rattle.time_shards.specs.declared.AddFault.{AddFault}
-use Rattle.time_shards.specs.declared.AddFault.TheVariants.{Rows, Start}
 use Rattle.time_shards.specs.Shards.{IsTable, added}
 use Rattle.registry_state.specs.declared.Batch.{Batch}
 use Rattle.verify_pass.specs.declared.starts.TooSoon.{TooSoon}
 use Rattle.verify_pass.specs.TooSoon.{all_batches, too_soon_for}
-use Rattle.topology_journal.specs.Topologies.{MayCome, is_longer, one_more}
+use Rattle.topology_journal.specs.Topologies.{MayCome}
 use Rattle.topology_journal.specs.Topologies as journal
-use Rattle.topology_journal.proofs.Spelled.{more_same}
 use Rattle.photon_model.specs.Adding.{with_row}
 use Rattle.run_fault.specs.declared.fault.Unfit.{Unfit}
 use Rattle.run_fault.specs.declared.fault.RunFault.TheVariants as fault
@@ -35,9 +32,6 @@ use Rattle.site_store.proofs.Values.{names_kept}
 no_answer : (why : Unfit) (t : Topology) → ◌≡◌ {A = Result Topology Unfit} (Err why) (Ok t) → ⊥
 no_answer why t e = (cc)
 
-same_answer : (t u : Topology) → ◌≡◌ {A = Result Topology Unfit} (Ok t) (Ok u) → t ≡ u
-same_answer t u e = cc
-
 abbrev Added : Type 0
 Added = Result (List ShardRow) AddFault
 
@@ -46,10 +40,7 @@ added_is rows row table = grind arith
 
 by_parts : (joiners start : ℕ) (r : Added) (soon : Option TooSoon) (t : Topology) → answer_of joiners start r soon ≡ Ok t
     → (table : List ShardRow) × (r ≡ Ok table) × (journal.topology_of joiners table ≡ t) × (soon ≡ None)
-by_parts joiners start (Err Rows) soon t e = absurd (no_answer _ t e)
-by_parts joiners start (Err (Start last)) soon t e = absurd (no_answer _ t e)
-by_parts joiners start (Ok table) (Some soon) t e = absurd (no_answer _ t e)
-by_parts joiners start (Ok table) None t e = (table, refl, same_answer _ t e, refl)
+by_parts joiners start h soon t e = grind (arith, no_answer)
 
 -- an answer's topology is the kept one with the row, which nothing forbids
 record IsLonger (kept : Option Topology) (batches : List Batch) (row : ShardRow) (t : Topology) : Type 0 where
@@ -59,15 +50,7 @@ record IsLonger (kept : Option Topology) (batches : List Batch) (row : ShardRow)
   free : too_soon_for batches row.start ≡ None
 
 answered : (kept : Option Topology) (batches : List Batch) (row : ShardRow) (t : Topology) → answer_to kept batches row ≡ Ok t → IsLonger kept batches row t
-answered None batches row t e = absurd (no_answer _ t e)
-answered (Some was) batches row t e =
-    let x = by_parts was.joiners row.start (added was.table row) (too_soon_for batches row.start) t e in
-    record {
-      was = was;
-      is_kept = refl;
-      longer = ap (journal.topology_of was.joiners) (sym (added_is was.table row x.0 x.1)) ∙ x.2;
-      free = x.3;
-    }
+answered h batches row t e = grind (arith, no_answer, by_parts)
 
 pub answers : (kept : Option Topology) (was : Topology) (batches : List Batch) (row : ShardRow) (table : List ShardRow) (soon : Option TooSoon) → kept ≡ Some was → added was.table row ≡ Ok table → too_soon_for batches row.start ≡ soon
     → answer_to kept batches row ≡ answer_of was.joiners row.start (Ok table) soon
@@ -76,12 +59,7 @@ answers kept was batches row table soon is so at = grind arith
 -- its record may come next
 pub may_come : (kept : Option Topology) (was : Topology) (row : ShardRow) (table : List ShardRow) → kept ≡ Some was → IsTopology was → added was.table row ≡ Ok table → IsTable table
     → MayCome kept (journal.topology_of was.joiners table)
-may_come kept was row table is fine so ok = (
-  subst (λ (o : Option Topology). IfSome o (λ k. is_longer k (journal.topology_of was.joiners table) ≡ true)) (sym is)
-      (ap (λ b. b && one_more was.table table) (eq-eqb was.joiners was.joiners refl)
-      ∙ subst (λ (rows : List ShardRow). one_more was.table rows ≡ true) (sym (added_is was.table row table so)) (more_same was.table row)),
-  record { joiners = record { some = fine.joiners.some; few = fine.joiners.few }; table = ok },
-)
+may_come kept was row table is fine so ok = grind (arith, eq-eqb, added_is)
 
 pub no_limit : (k : KeptValues) (told : Option RunFault) → told ≡ first_limit k → ((f : RunFault) → told ≡ Some f → ⊥) → first_limit k ≡ None
 no_limit k told e none = grind arith

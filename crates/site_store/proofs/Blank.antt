@@ -24,13 +24,8 @@ blank_notes other = []
 
 -- without joiners none is an output's
 no_pairs : (replicas : ℕ) (n : DiskName) (kept : Kept) → IsOfKind n kept → IsNamed 0 replicas n → pairs_at kept ≡ []
-no_pairs replicas name.Topology kept (v, is) named = ap pairs_at is
-no_pairs replicas (name.Offset s) kept (v, is) named = ap pairs_at is
-no_pairs replicas (name.Retry s) kept (v, is) named = ap pairs_at is
-no_pairs replicas (name.Server s) kept (v, is) named = ap pairs_at is
-no_pairs replicas (name.Replica r) kept (v, is) named = ap pairs_at is
-no_pairs replicas (name.Epoch s j) kept (v, is) named = ap pairs_at is
 no_pairs replicas (name.Output s j) kept (v, is) named = absurd (omega (arith, named.1))
+no_pairs replicas _ kept (v, is) named = ap pairs_at is
 
 module _ (tells : Bool) (sure : IsTrue tells) (image : DiskName → List ℕ → Type 0) (one : KeepOneTopology) (read_topology : ReadTopologyIsKept) (g : Setting) (some : LeavesSomething g image)
     (sound : IsSoundStore g image) (v : KeptValues) (kept : AreKept tells image g.config.replicas 0 v) (none : v.topology ≡ None) where

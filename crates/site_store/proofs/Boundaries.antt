@@ -23,23 +23,12 @@ line_round (x ∷ ls) p i f low high =
 -- a line starts where the first does or where another ends
 place_boundary : (ls : List ClickLine) (p : ℕ) (l : ClickLine) → Follow p ls → Mem l ls → (l.place ≡ p) ⊎ ((m : ClickLine) × Mem m ls × (m.end_ ≡ l.place))
 place_boundary [] p l f m = absurd m
-place_boundary (x ∷ ls) p l f (inl e) = inl (subst (λ (y : ClickLine). y.place ≡ p) e f.0)
-place_boundary (x ∷ ls) p l f (inr m) =
-    ⊎_elim
-    (λ first. inr (x, inl refl, sym first))
-    (λ behind. inr (behind.0, inr behind.1, behind.2))
-    (place_boundary ls x.end_ l f.2 m)
+place_boundary (x ∷ ls) p l f h = grind (arith, place_boundary ls x.end_ l f.2)
 
 -- where a line ends and more follow, the next one starts
 next_start : (ls : List ClickLine) (p q : ℕ) → Follow p ls → (q ≡ p) ⊎ ((l : ClickLine) × Mem l ls × (l.end_ ≡ q)) → q < end_from p ls → (l : ClickLine) × Mem l ls × (l.place ≡ q)
-next_start [] p q f (inl e) low = absurd (omega arith)
-next_start [] p q f (inr (l, m, e)) low = absurd m
-next_start (x ∷ ls) p q f (inl e) low = (x, inl refl, f.0 ∙ sym e)
-next_start (x ∷ ls) p q f (inr (l, inl s, e)) low =
-    let first : q ≡ x.end_ = sym e ∙ sym (ap (λ (y : ClickLine). y.end_) s) in
-    let later = next_start ls x.end_ q f.2 (inl first) low in
-    (later.0, inr later.1, later.2)
-next_start (x ∷ ls) p q f (inr (l, inr m, e)) low = let later = next_start ls x.end_ q f.2 (inr (l, m, e)) low in (later.0, inr later.1, later.2)
+next_start [] p q f h low = grind arith
+next_start (x ∷ ls) p q f h low = grind (arith, next_start ls x.end_ q f.2)
 
 -- ---- lines in their log
 
@@ -81,10 +70,7 @@ module _ (log : List ℕ) (ls : List ClickLine) (h : HoldsLines log ls) where
   boundary_of : (q : ℕ) → q ≤ end_from 0 ls → IsBehindFeed log q → IsBoundary ls q
   boundary_of q le (i, is, feed) =
       let (l, m, low, high) = line_round ls 0 i follow (omega arith) (omega arith) in
-      ⊎_elim
-      (λ within. absurd (line_byte l i m low within feed))
-      (λ last. inr (l, m, omega arith))
-      (cases_lt (suc i) l.end_)
+      grind (arith, line_byte)
 
   feed_of : (q : ℕ) → 0 < q → IsBoundary ls q → IsBehindFeed log q
   feed_of q some (inl none) = absurd (omega arith)

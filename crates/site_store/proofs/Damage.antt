@@ -8,7 +8,6 @@ use Rattle.run_fault.specs.declared.fault.StorePlace.TheVariants as place
 use Rattle.run_fault.specs.declared.fault.RunFault.TheVariants as fault
 use Rattle.site_store.proofs.Lending.{each_back}
 use Rattle.site_store.proofs.Names.{others_are}
-use Rattle.site_store.proofs.SameNames.{same_or_not}
 use Rattle.site_store.proofs.Undamaged.{undamaged}
 
 -- ---- the disks that are opened are the setting's
@@ -55,10 +54,7 @@ journal_is g b s holds (name.Output i j) here = (_, holds.records (name.Output i
 -- what a stop may leave of one disk, and something of each other
 module _ (g : Setting) (image : DiskName → List ℕ → Type 0) (some : LeavesSomething g image) (sound : IsSoundStore g image) (disk : DiskName) (here : IsDisk g disk) (c : List ℕ) (now : image disk c) where
   one_each : (other : DiskName) → IsDisk g other → (b : List ℕ) × (image other b × (other ≡ disk → b ≡ c))
-  one_each other is = elim (same_or_not other disk) [
-    | inl same ↦ (c, (subst (λ (n : DiskName). image n c) (sym same) now, λ e. refl))
-    | inr not ↦ ((some other is).0, ((some other is).1, λ e. absurd (not e)))
-  ]
+  one_each other is = grind arith
 
   abbrev chosen : (b : Bytes) × ((other : DiskName) → IsDisk g other → image other (b other) × (other ≡ disk → b other ≡ c))
   chosen = choose g (λ other b. image other b × (other ≡ disk → b ≡ c)) one_each

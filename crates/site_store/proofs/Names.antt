@@ -102,13 +102,10 @@ module _ (joiners replicas : ℕ) where
   is_named name.Topology is = absurd is
   is_named (name.Offset zero) is = from_site _ (inl refl)
   is_named (name.Offset (suc zero)) is = from_site _ (inr (inl refl))
-  is_named (name.Offset (suc (suc s))) is = absurd (omega (arith, is))
   is_named (name.Retry zero) is = from_site _ (inr (inr (inl refl)))
   is_named (name.Retry (suc zero)) is = from_site _ (inr (inr (inr (inl refl))))
-  is_named (name.Retry (suc (suc s))) is = absurd (omega (arith, is))
   is_named (name.Server zero) is = from_site _ (inr (inr (inr (inr (inl refl)))))
   is_named (name.Server (suc zero)) is = from_site _ (inr (inr (inr (inr (inr (inl refl))))))
-  is_named (name.Server (suc (suc s))) is = absurd (omega (arith, is))
   is_named (name.Replica r) is = from_rs _ (mem_right _ site_names rs (mem_value (λ r. name.Replica r) 0 replicas r r (omega arith) is))
   is_named (name.Epoch zero j) is = from_es _ (mem_left _ (to_rs ++ es 0) (es 1) (mem_right _ to_rs (es 0) (mem_value (λ j. name.Epoch 0 j) 0 joiners j j (omega arith) is.1)))
   is_named (name.Epoch (suc zero) j) is = from_es _ (mem_right _ (to_rs ++ es 0) (es 1) (mem_value (λ j. name.Epoch 1 j) 0 joiners j j (omega arith) is.1))
@@ -116,6 +113,7 @@ module _ (joiners replicas : ℕ) where
   is_named (name.Output zero j) is = mem_left _ (to_es ++ os 0) (os 1) (mem_right _ to_es (os 0) (mem_value (λ j. name.Output 0 j) 0 joiners j j (omega arith) is.1))
   is_named (name.Output (suc zero) j) is = mem_right _ (to_es ++ os 0) (os 1) (mem_value (λ j. name.Output 1 j) 0 joiners j j (omega arith) is.1)
   is_named (name.Output (suc (suc s)) j) is = absurd (omega (arith, is.0))
+  is_named _ is = absurd (omega (arith, is))
 
   pub not_topology : Each (λ disk. disk ≢ name.Topology) all
   not_topology = each_weaker Named (λ (disk : DiskName). disk ≢ name.Topology) (λ disk is e. subst Named e is) all each_named
@@ -203,24 +201,16 @@ module _ (joiners replicas : ℕ) where
 module _ (g : Setting) where
   in_setting : (n : ℕ) → n ≤ g.config.joiners → (disk : DiskName) → IsNamed n g.config.replicas disk → IsDisk g disk
   in_setting n le name.Topology is = absurd is
-  in_setting n le (name.Offset s) is = is
-  in_setting n le (name.Retry s) is = is
-  in_setting n le (name.Server s) is = is
-  in_setting n le (name.Replica r) is = is
   in_setting n le (name.Epoch s j) is = (is.0, omega (arith, is.1, le))
   in_setting n le (name.Output s j) is = (is.0, omega (arith, is.1, le))
+  in_setting n le _ is = is
 
   pub others_are : (n : ℕ) → n ≤ g.config.joiners → Each (IsDisk g) (other_names n g.config.replicas)
   others_are n le = each_weaker (IsNamed n g.config.replicas) (IsDisk g) (in_setting n le) (other_names n g.config.replicas) (each_named n g.config.replicas)
 
   is_other : (disk : DiskName) → IsDisk g disk → disk ≢ name.Topology → IsNamed g.config.joiners g.config.replicas disk
   is_other name.Topology here other = absurd (other refl)
-  is_other (name.Offset s) here other = here
-  is_other (name.Retry s) here other = here
-  is_other (name.Server s) here other = here
-  is_other (name.Replica r) here other = here
-  is_other (name.Epoch s j) here other = here
-  is_other (name.Output s j) here other = here
+  is_other _ here other = here
 
   -- and all of them but the topology's
   pub all_named : (disk : DiskName) → IsDisk g disk → disk ≢ name.Topology → Mem disk (other_names g.config.joiners g.config.replicas)

@@ -11,12 +11,8 @@ use Rattle.site_store.proofs.Values.{at_name, find_name, one_named, named_mem}
 
 pub keeps_of : ReadNotesAreKept → (g : Setting) (d : Disks) (n : DiskName) (kept : Kept) (c : List ℕ) → Says g d n kept → KeepsAs kept c → KeepsOf g d n c
 keeps_of read g d name.Topology kept c says keeps = tt
-keeps_of read g d (name.Offset s) kept c says keeps = subst (λ (k : Kept). KeepsAs k c) says keeps
-keeps_of read g d (name.Retry s) kept c says keeps = subst (λ (k : Kept). KeepsAs k c) says keeps
-keeps_of read g d (name.Server s) kept c says keeps = subst (λ (k : Kept). KeepsAs k c) says keeps
 keeps_of read g d (name.Replica r) kept c (notes, is, same) keeps = subst (λ (k : ReplicaKept). KeepsVotes k c) (sym same) (read notes c (subst (λ (k : Kept). KeepsAs k c) is keeps))
-keeps_of read g d (name.Epoch s j) kept c says keeps = subst (λ (k : Kept). KeepsAs k c) says keeps
-keeps_of read g d (name.Output s j) kept c says keeps = subst (λ (k : Kept). KeepsAs k c) says keeps
+keeps_of read g d _ kept c says keeps = subst (λ (k : Kept). KeepsAs k c) says keeps
 
 -- the records were left with a topology, or with none
 abbrev pub IsLeftWith : Setting → (DiskName → List ℕ → Type 0) → Disks → Type 0

@@ -42,22 +42,12 @@ module _ (g : Setting) (d : Disks) where
   pairs_by other = []
 
   notes_said : (n : DiskName) (kept : Kept) → IsOfKind n kept → Says g d n kept → map (map note_view) (notes_at kept) ≡ notes_by n
-  notes_said name.Topology kept (v, is) says = ap (λ (k : Kept). map (map note_view) (notes_at k)) is
-  notes_said (name.Offset s) kept (v, is) says = ap (λ (k : Kept). map (map note_view) (notes_at k)) is
-  notes_said (name.Retry s) kept (v, is) says = ap (λ (k : Kept). map (map note_view) (notes_at k)) is
-  notes_said (name.Server s) kept (v, is) says = ap (λ (k : Kept). map (map note_view) (notes_at k)) is
   notes_said (name.Replica r) kept own (notes, is, same) = ap (λ (k : Kept). map (map note_view) (notes_at k)) is ∙ ap (λ (k : ReplicaKept). k.notes ∷ []) (sym same)
-  notes_said (name.Epoch s j) kept (v, is) says = ap (λ (k : Kept). map (map note_view) (notes_at k)) is
-  notes_said (name.Output s j) kept (v, is) says = ap (λ (k : Kept). map (map note_view) (notes_at k)) is
+  notes_said _ kept (v, is) says = ap (λ (k : Kept). map (map note_view) (notes_at k)) is
 
   pairs_said : (n : DiskName) (kept : Kept) → IsOfKind n kept → Says g d n kept → pairs_at kept ≡ pairs_by n
-  pairs_said name.Topology kept (v, is) says = ap pairs_at is
-  pairs_said (name.Offset s) kept (v, is) says = ap pairs_at is
-  pairs_said (name.Retry s) kept (v, is) says = ap pairs_at is
-  pairs_said (name.Server s) kept (v, is) says = ap pairs_at is
-  pairs_said (name.Replica r) kept (v, is) says = ap pairs_at is
-  pairs_said (name.Epoch s j) kept (v, is) says = ap pairs_at is
   pairs_said (name.Output s j) kept own says = ap pairs_at says
+  pairs_said _ kept (v, is) says = ap pairs_at is
 
   abbrev of_site : ℕ → ℕ → List PairRec
   of_site s j = (d.joiners (joiner_of g s j)).pairs

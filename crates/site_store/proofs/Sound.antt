@@ -1,6 +1,6 @@
 -- What a sound store keeps isn't refused: no topology, no place of the click log, and no disk as damaged.
 use Rattle.std.proofs.Common.{◌≡◌, ◌≢◌, inl, inr, ℕ, ◌≤◌, List, map, Bool, IsTrue, true, Option, Some, None, refl, sym, ◌∙◌, ap, subst, arith}
-use Rattle.site_store.proofs.Words.{Each, EachPair, Mem, has, DiskName, KeepsOffset, offset_of, KeepsPending, pending_of, end_from, IsBoundary, Topology, Keeps, Setting, IsLogOf, joiners_kept, IsMisfit, RunFault, IsWelcome, Fits, places_at, all_kept, PlainTopology, topology_of, Bytes, IsDisk, KeepsTopology, KeepSound, IsSoundStore, topology_read, ReadTopologyIsKept, TopologyFits, choose, one_value, Kept, KeptDisk, KeptValues, KeepsAs, IsOfKind, IsKept, AreKept, IsAsked, IsCause, LeavesSomething, other_names}
+use Rattle.site_store.proofs.Words.{Each, EachPair, Mem, has, DiskName, KeepsPending, pending_of, end_from, Topology, Keeps, Setting, IsLogOf, joiners_kept, IsMisfit, RunFault, IsWelcome, Fits, places_at, all_kept, PlainTopology, topology_of, Bytes, IsDisk, KeepSound, IsSoundStore, ReadTopologyIsKept, TopologyFits, choose, one_value, Kept, KeptDisk, KeptValues, KeepsAs, IsOfKind, IsKept, AreKept, IsAsked, IsCause, LeavesSomething, other_names}
 use Rattle.outside.specs.declared.store.DiskName.TheVariants as name
 use Rattle.run_fault.specs.declared.fault.Mismatch.TheVariants as mismatch
 use Rattle.run_fault.specs.declared.fault.RunFault.TheVariants as fault
@@ -61,16 +61,11 @@ module _ (tells : Bool) (sure : IsTrue tells) (image : DiskName → List ℕ →
     held d among here = (chosen.1 d.name here).1.0 d among refl
 
     pub topology_is : ReadTopologyIsKept → TopologyFits → (t : Topology) → k.topology ≡ Some t → record { joiners = t.joiners; table = t.table } ≡ topology_of g
-    topology_is read fits t is =
-        let keeps : KeepsTopology (topology_read k.topology) (chosen.0 name.Topology) = read k.topology (chosen.0 name.Topology) topology_held in
-        fits g chosen.0 (record { joiners = t.joiners; table = t.table }) all_sound (subst (λ (x : Option Topology). KeepsTopology (topology_read x) (chosen.0 name.Topology)) is keeps)
+    topology_is read fits t is = grind (arith, all_sound)
 
     fits_at : (n : DiskName) (kd : Kept) → IsOfKind n kd → IsDisk g n → KeepsAs kd (chosen.0 n) → Each (Fits g.clicks) (places_at n kd)
     fits_at name.Topology kd (v, is) here keeps = subst (λ (x : Kept). Each (Fits g.clicks) (places_at name.Topology x)) (sym is) tt
-    fits_at (name.Offset s) kd (v, is) here keeps =
-        let own : KeepsOffset v (chosen.0 (name.Offset s)) = subst (λ (x : Kept). KeepsAs x (chosen.0 (name.Offset s))) is keeps in
-        let same = one_value (offset_of (chosen.0 (name.Offset s))) _ _ (all_sound.1.records (name.Offset s) here) own in
-        subst (λ (x : Kept). Each (Fits g.clicks) (places_at (name.Offset s) x)) (sym is) (subst (IsBoundary g.clicks) same (all_sound.2.records.dispatchers s here).boundary, tt)
+    fits_at (name.Offset s) kd (v, is) here keeps = grind (arith, all_sound)
     fits_at (name.Retry s) kd (v, is) here keeps =
         let own : KeepsPending v (chosen.0 (name.Retry s)) = subst (λ (x : Kept). KeepsAs x (chosen.0 (name.Retry s))) is keeps in
         let same = one_value (pending_of (chosen.0 (name.Retry s))) _ _ (all_sound.1.records (name.Retry s) here) own in

@@ -45,9 +45,7 @@ each_before P (x ∷ xs) ys h = (h.0, each_before P xs ys h.1)
 
 -- what is told isn't kept where all fit
 pub first_clash : (ls : List ClickLine) (xs : List KeptPlace) (m : Misplaced) → IsFirst ls xs m → Each (Fits ls) xs → ⊥
-first_clash ls xs m h all =
-    let apart = subst (Each (Fits ls)) h.order all in
-    h.misfit (each_behind (Fits ls) h.before _ apart).0
+first_clash ls xs m h all = grind (arith, each_behind)
 
 -- the places of a disk among these fit where all do
 pub fit_at : (ls : List ClickLine) (disks : List KeptDisk) (d : KeptDisk) → Each (Fits ls) (all_kept disks) → Mem d disks → Each (Fits ls) (places_at d.name d.kept)

@@ -35,12 +35,7 @@ one_named (o ∷ os) apart a b h k e = grind (arith, each_mem, named_mem, one_na
 
 pub journal_of : (n : DiskName) (kept : Kept) (c : List ℕ) → IsOfKind n kept → KeepsAs kept c → IsJournalOf n c
 journal_of name.Topology kept c (v, is) keeps = (v, subst (λ (k : Kept). KeepsAs k c) is keeps)
-journal_of (name.Offset s) kept c (v, is) keeps = (v, subst (λ (k : Kept). KeepsAs k c) is keeps)
-journal_of (name.Retry s) kept c (v, is) keeps = (v, subst (λ (k : Kept). KeepsAs k c) is keeps)
-journal_of (name.Server s) kept c (v, is) keeps = (v, subst (λ (k : Kept). KeepsAs k c) is keeps)
-journal_of (name.Replica r) kept c (v, is) keeps = (v, subst (λ (k : Kept). KeepsAs k c) is keeps)
-journal_of (name.Epoch s j) kept c (v, is) keeps = (v, subst (λ (k : Kept). KeepsAs k c) is keeps)
-journal_of (name.Output s j) kept c (v, is) keeps = (v, subst (λ (k : Kept). KeepsAs k c) is keeps)
+journal_of _ kept c (v, is) keeps = (v, subst (λ (k : Kept). KeepsAs k c) is keeps)
 
 -- the disk of a name was a journal of its kind
 pub was_journal : (before : DiskName → List ℕ → Type 0) (disks : List KeptDisk) (n : DiskName) → Each (λ d. IsOfKind d.name d.kept) disks → Each (IsKept before) disks → Mem n (map (λ d. d.name) disks)

@@ -1,12 +1,10 @@
 -- Rounds of workers, one after another, and what they leave.
-use Rattle.std.proofs.Common.{◌≡◌, ℕ, zero, suc, ◌+◌, ◌<◌, false, List, [], ◌∷◌, ◌++◌, length, map, take, drop, get_or, slice_index_or, Option, Some, None, IfSome, MatchOption, refl, sym, ap, ◌∙◌, subst, arith}
+use Rattle.std.proofs.Common.{◌≡◌, ℕ, zero, suc, ◌+◌, ◌<◌, false, List, [], ◌∷◌, ◌++◌, length, map, take, drop, get_or, Option, Some, None, IfSome, MatchOption, refl, sym, ap, ◌∙◌, subst, arith}
 use Rattle.std.specs.Prelude.{All, IsTrue, IsSome}
-use mathlib.Core.Logic.{dite}
 use mathlib.Core.List.{map-append}
 use Rattle.std.proofs.Math.Seq.{take-append_seam}
 use Rattle.std.proofs.lemmas.Simd.{map-map}
 use Rattle.std.specs.List.{range_with_len}
-use native.Mathlib.Decide.{ℕ_discrete}
 use Rattle.std.proofs.lemmas.List.{length-map, get_or-map, get_or_append_left, get_or_push, ext_get_or}
 use Rattle.std.proofs.Common.{[], length-append}
 use Rattle.std.proofs.lemmas.List.FromFn.{map-range_with_len_more}
@@ -23,10 +21,7 @@ use Rattle.site_workers.specs.Rounds.{WentOn, AllWentOn, Rests, OneHasFault, Has
 use Rattle.site_workers.proofs.Stepping.{went_on}
 
 pub all_on : {N : Type 0} (m : Ghosts N) (us vs ws : List (WorkerView N)) → AllWentOn m us vs → AllWentOn m vs ws → AllWentOn m us ws
-all_on m us vs ws a b = record {
-  count = b.count ∙ a.count;
-  each = λ i d l. went_on m (slice_index_or us i d) (slice_index_or vs i d) (slice_index_or ws i d) (a.each i d l) (b.each i d (omega (arith, l, a.count)));
-}
+all_on m us vs ws a b = grind (arith, went_on)
 
 -- ---- lists
 
@@ -46,11 +41,7 @@ some_of (x ∷ xs) i l = x
 
 fresh_at : (bus : BusId) (m i : ℕ) (d : Sight) → i < m → get_or (fresh_to bus m) i d ≡ fresh bus (Some i)
 fresh_at bus zero i d l = absurd (omega (arith, l))
-fresh_at bus (suc m) i d l =
-    let len = fresh_count bus m in
-    dite (ℕ_discrete m i)
-    (λ same. get_or_push (fresh_to bus m) (fresh bus (Some m)) d i (len ∙ same) ∙ ap (λ k. fresh bus (Some k)) same)
-    (λ ne. get_or_append_left (fresh_to bus m) (fresh bus (Some m) ∷ []) d i (omega (arith, len, l, ne)) ∙ fresh_at bus m i d (omega (arith, l, ne)))
+fresh_at bus (suc m) i d l = grind (arith, fresh_count, get_or_push, get_or_append_left, fresh_at bus m i d)
 
 -- what it made led a node from where it was when it was opened to where it is with its fault
 pub record Left {N : Type 0} (m : Ghosts N) (v : N) (w : N × Option NodeFault) (mine : List Entry) : Type 0 where

@@ -18,7 +18,7 @@ use Rattle.bus_seat.specs.Seats.{Sight, Begins, Adds, Looks, next_for}
 use Rattle.site_node.specs.declared.kind.Done.{Done}
 use Rattle.site_node.specs.declared.kind.NodeDisk.{NodeDisk}
 use Rattle.site_node.specs.declared.kind.NodeFault.{NodeFault}
-use Rattle.site_node.specs.declared.kind.NodeFault.TheVariants.{Stopped, Disk, Damaged, Read, Spent, Memory}
+use Rattle.site_node.specs.declared.kind.NodeFault.TheVariants.{Stopped, Damaged, Spent, Memory}
 use Rattle.site_node.specs.declared.kind.SiteNode.{Ghosts}
 use Rattle.site_node.specs.Faults.{MeetsStops, IsOfTurn, was_stopped, was_shut_out}
 use Rattle.site_workers.specs.Works.{WorkerView, Path, StandsAt, Reached, Grew, HasMet, KeepsPlan, is_begin, is_in_turn, is_stop, stop_count, open_stops}
@@ -54,13 +54,7 @@ module _ {N : Type 0} (m : Ghosts N) where
   went_on u v w a b = record {
     grew = grew_on u.seat v.seat w.seat a.grew b.grew;
     disks = b.disks ∙ a.disks;
-    plan = λ p.
-        let first = a.plan p in
-        let next = b.plan p in
-        record {
-          most = λ k h. next.most k (first.most k h);
-          calm = λ h. let f = first.calm h in let n = next.calm (first.most 0 h) in (n.0 ∙ f.0, n.1 ∙ f.1);
-        };
+    plan = grind arith;
     leads_on = λ t s at.
         let f = a.leads_on t s at in
         let n = b.leads_on t f.1 f.4 in
@@ -78,23 +72,11 @@ module _ {N : Type 0} (m : Ghosts N) where
 
   -- a seat that only looked
   pub went_looking : (v : N) (s t : Sight) (o : Option NodeFault) → (t.bus ≡ s.bus) × (t.number ≡ s.number) → Looks s t → WentOn m (record { node = v; seat = s; fault = o }) (record { node = v; seat = t; fault = o })
-  went_looking v s t o kept looks = record {
-    grew = record { bus = kept.0; number = kept.1; seen = looks.0; mine = ([], append-nil s.mine ∙ sym looks.1) };
-    disks = refl;
-    plan = λ p. subst (λ mine. KeepsPlan m.stops_left m.faults m.waits v o s.mine v o mine) (sym looks.1) (record { most = λ k h. h; calm = λ h. (refl, refl) });
-    leads_on = λ tells a at. ([], a, looks.1 ∙ sym (append-nil s.mine), refl, subst (λ mine. StandsAt m.leads m.phase_of m.stands m.number m.spends v o mine a) (sym looks.1) at);
-    grows_on = λ tells a at. (0, refl);
-  }
+  went_looking v s t o kept looks = grind (arith, append-nil)
 
   -- there was no memory for a turn
   pub went_short : (v : N) (s : Sight) → WentOn m (record { node = v; seat = s; fault = None }) (record { node = v; seat = s; fault = Some Memory })
-  went_short v s = record {
-    grew = record { bus = refl; number = refl; seen = ([], append-nil s.seen); mine = ([], append-nil s.mine) };
-    disks = refl;
-    plan = λ p. record { most = λ k h. h; calm = λ h. (refl, refl) };
-    leads_on = λ tells a at. ([], a, sym (append-nil s.mine), refl, record { at = at.at; phased = λ is. absurd (cc is); whole = λ disk place is. absurd (cc is); spent = λ epoch is. absurd (cc is) });
-    grows_on = λ tells a at. (0, refl);
-  }
+  went_short v s = grind (arith, append-nil)
 
 -- ---- entries
 
@@ -149,13 +131,7 @@ opened n wants tick v w o i whose is kept did =
 -- an entry that is no stop changes nothing
 pub met_more : {N : Type 0} (faults : N → ℕ) (waits : N → Bool) (v w : N) (o : Option NodeFault) (old new : List Entry) (e : Entry) → new ≡ old ++ e ∷ [] → is_stop e ≡ false → faults v ≤ faults w → HasMet faults waits v o old
     → (list_any is_stop new ≡ true → 1 ≤ faults w) × (stop_count new ≤ 8)
-met_more faults waits v w o old new e is never more met =
-    let same : stop_count new ≡ stop_count old + stop_count (e ∷ []) = ap stop_count is ∙ counted_more old e in
-    let none : stop_count (e ∷ []) ≡ 0 = ap (λ (b : Bool). length (if b then e ∷ [] else [])) never in
-    let most = met.most in (
-      λ has. let before = met.stops (sym (ap (list_any is_stop) is ∙ any_more old e never) ∙ has) in omega (arith, before, more),
-      omega (arith, same, none, most),
-    )
+met_more faults waits v w o old new e is never more met = grind (arith, counted_more, any_more)
 
 -- whether it was the last stop
 last_stop : (b : Bool) (n : ℕ) (o : Option NodeFault) → nat_lt n 8 ≡ b → o ≡ (if b then None else Some Stopped) → (o ≡ Some Stopped → 8 ≤ n) × (o ≡ None → n < 8)
@@ -176,41 +152,22 @@ module _ {N : Type 0} (m : Ghosts N) (v : N) (x : List Entry) where
 
   -- a turn that wasn't stopped
   pub plan_done : (w : N) (o : Option NodeFault) (y : List Entry) → stop_count y + open_stops o ≡ stop_count x → m.waits w ≡ m.waits v → Meets false v w → Plan w o y
-  plan_done w o y same up met = record {
-    most = λ k h. (h.0, met.0 h.0 h.1, omega (arith, h.2, same));
-    calm = λ h. (met.1, up);
-  }
+  plan_done w o y same up met = grind arith
 
   -- one that was, be it closed by a stop or not
   pub plan_stopped : (u w : N) (o : Option NodeFault) (y : List Entry) → stop_count y + open_stops o ≤ stop_count x + 1 → Meets true v u → Meets false u w → Plan w o y
-  plan_stopped u w o y more met back = record {
-    most = λ k h. let s = met h.0 h.1 in (s.0, back.0 s.0 s.2, omega (arith, h.2, s.1, more));
-    calm = λ h. let s = met h.0 h.1 in absurd (omega (arith, h.2, s.1));
-  }
+  plan_stopped u w o y more met back = grind arith
 
   -- one that was, and its node isn't up again
   pub plan_shut : (u w : N) (f : NodeFault) → Meets true v u → Meets (was_shut_out {T = Option (List ℕ)} (Err f)) u w → Plan w (Some f) x
-  plan_shut u w (Disk disk) met back = record {
-    most = λ k h. let s = met h.0 h.1 in let t = back s.0 s.2 in (t.0, t.2, omega (arith, h.2, s.1, t.1));
-    calm = λ h. let s = met h.0 h.1 in absurd (omega (arith, h.2, s.1));
-  }
-  plan_shut u w Stopped met back = plan_stopped u w (Some Stopped) x (omega arith) met back
-  plan_shut u w (Damaged disk at) met back = plan_stopped u w (Some (Damaged disk at)) x (omega arith) met back
-  plan_shut u w Read met back = plan_stopped u w (Some Read) x (omega arith) met back
-  plan_shut u w (Spent epoch) met back = plan_stopped u w (Some (Spent epoch)) x (omega arith) met back
-  plan_shut u w Memory met back = plan_stopped u w (Some Memory) x (omega arith) met back
+  plan_shut u w h met back = grind arith
 
   pub was_met : (u : N) (f : NodeFault) → f ≡ Stopped → Meets (was_stopped {T = Done} (Err f)) v u → Meets true v u
   was_met u f is met = subst (λ g. Meets (was_stopped {T = Done} (Err g)) v u) is met
 
   -- one that is open still
   pub plan_left : (w : N) (f : NodeFault) → f ≢ Stopped → IsOfTurn f → m.waits v ≡ false → m.waits w ≡ was_stopped {T = Done} (Err f) → Meets (was_stopped {T = Done} (Err f)) v w → Plan w (Some f) x
-  plan_left w Stopped other kind up waits met = absurd (other refl)
-  plan_left w (Disk disk) other kind up waits met = absurd kind
-  plan_left w (Damaged disk at) other kind up waits met = absurd kind
-  plan_left w Read other kind up waits met = plan_done w (Some Read) x (omega arith) (waits ∙ sym up) met
-  plan_left w (Spent epoch) other kind up waits met = plan_done w (Some (Spent epoch)) x (omega arith) (waits ∙ sym up) met
-  plan_left w Memory other kind up waits met = plan_done w (Some Memory) x (omega arith) (waits ∙ sym up) met
+  plan_left w h other kind up waits met = grind arith
 
 -- ---- a turn
 

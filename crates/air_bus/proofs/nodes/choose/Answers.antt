@@ -1,12 +1,11 @@
-use Rattle.std.proofs.Common.{Ok, Err, sym, subst}
+use Rattle.std.proofs.Common.{sym, subst, arith}
 use Rattle.std.specs.Prelude.{Result, IfOk}
 use Rattle.air_bus.proofs.Words.{Keeps}
 use Rattle.air_bus.proofs.Sending.{turn_still}
 use Rattle.air_bus.proofs.nodes.choose.Goals as goal
 
 if_ok_more : {T E : Type 0} (r : Result T E) (P Q : T → Type 0) → ((v : T) → P v → Q v) → IfOk r P → IfOk r Q
-if_ok_more (Ok v) P Q h p = h v p
-if_ok_more (Err e) P Q h p = p
+if_ok_more k e m h p = grind arith
 
 pub returns-clause-answer : goal.returns-clause-answer
 returns-clause-answer c = if_ok_more c.choose.result _ _

@@ -1,15 +1,13 @@
-use Rattle.std.proofs.Common.{rules, ◌<◌, length, true, Result, Ok, Err}
+use Rattle.std.proofs.Common.{rules, ◌<◌, length, true, Result, arith}
 use Rattle.std.specs.Prelude.{OnOk, OnErr}
 use Rattle.air_bus.proofs.Sending.{turn_one, turn_still}
 use Rattle.air_bus.proofs.send.put.Goals as goal
 
 pub on_ok : {T E : Type 0} (r : Result T E) (P Q : Type 0) → OnOk r P → (P → Q) → OnOk r Q
-on_ok (Ok x) P Q p f = f p
-on_ok (Err e) P Q p f = tt
+on_ok h k e p f = grind arith
 
 pub on_err : {T E : Type 0} (r : Result T E) (P Q : Type 0) → OnErr r P → (P → Q) → OnErr r Q
-on_err (Ok x) P Q p f = tt
-on_err (Err e) P Q p f = f p
+on_err h k e p f = grind arith
 
 pub returns-clause-ok : goal.returns-clause-ok
 returns-clause-ok c =

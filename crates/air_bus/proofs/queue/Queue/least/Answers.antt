@@ -1,4 +1,4 @@
-use Rattle.std.proofs.Common.{◌≡◌, ⊎_elim, ℕ, ◌<◌, List, length, Some, None, sym, refl, arith}
+use Rattle.std.proofs.Common.{◌≡◌, ⊎_elim, ℕ, ◌<◌, List, length, sym, refl, arith}
 use Rattle.std.specs.Prelude.{Option, IfSome}
 use Rattle.air_bus.proofs.Words.{Bor, true≢false, cases_lt, heap_items, heap_len, IsHeap, IsUpperBound, Parcel}
 use Rattle.air_bus.proofs.Parcels.{by_due, next_stands, ready_least, first_among, first_each, late_next}
@@ -8,8 +8,7 @@ none_of : (n m : ℕ) → n ≡ m → (0 < n → ⊥) → m ≡ 0
 none_of n m is h = ⊎_elim (λ l. absurd (h l)) (λ l. omega (arith, is, l)) (cases_lt 0 n)
 
 bound_of : (o : Option (Bor Parcel)) (xs : List Parcel) → IsHeap by_due xs → IfSome o (λ x. IsHeap by_due xs → IsUpperBound by_due x.now xs) → IfSome o (λ x. IsUpperBound by_due x.now xs)
-bound_of None xs heap bound = tt
-bound_of (Some x) xs heap bound = bound heap
+bound_of h xs heap bound = grind arith
 
 pub returns-in-Some : goal.returns-in-Some
 returns-in-Some c = λ copies h.

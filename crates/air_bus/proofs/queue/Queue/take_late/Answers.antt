@@ -1,5 +1,5 @@
-use Rattle.std.proofs.Common.{◌≡◌, ◌<◌, length, sym, subst, arith}
-use Rattle.air_bus.proofs.Words.{left_by, Stands, heap_items, All-head, All-permutation, sum_by_popped, Parcel}
+use Rattle.std.proofs.Common.{◌≡◌, ◌<◌, length, arith}
+use Rattle.air_bus.proofs.Words.{heap_items, All-head, All-permutation, sum_by_popped, Parcel}
 use Rattle.air_bus.proofs.Parcels.{taken_stands, late_least, none_taken}
 use Rattle.air_bus.proofs.queue.Queue.take_late.Goals as goal
 
@@ -15,9 +15,4 @@ returns c = λ copies h.
     (λ f. omega (arith, sum_by_popped f x (heap_items q.late) (heap_items c.pop.new.self) c.in-Some.ensures.permutation)) h
 
 pub returns-in-None : goal.returns-in-None
-returns-in-None c = λ copies h.
-    let q = c.args.self.now in
-    let none : length (heap_items q.ready) ≡ 0 = omega (arith, c.requires.none, q.ready.data.ok.0) in
-    let late : length (heap_items q.late) ≡ 0 = omega (arith, c.in-None.ensures.none, q.late.data.ok.0) in
-    subst (λ ps. Stands q.taken q.next (heap_items q.ready) ps (left_by copies)) (sym c.in-None.ensures.unchanged.0)
-    (none_taken q.taken q.next (heap_items q.ready) (heap_items q.late) copies (omega (arith, none, late)) h).1
+returns-in-None c = grind (arith, none_taken, c.args.self.now.ready, c.requires.none, c.args.self.now.ready.data.ok.0, c.args.self.now.late, c.in-None.ensures.none, c.args.self.now.late.data.ok.0, c.args.self.now.taken, c.args.self.now.next)
