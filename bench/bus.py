@@ -44,18 +44,16 @@ fn main() {
     let threads: usize = words[1].parse().unwrap();
     let turns: u32 = words[2].parse().unwrap();
     let air = Mutex::new(Air { phases: vec![Phase::Down; threads], busy: 0, entries: 0 });
-    for _round in 0..2 {
-        std::thread::scope(|scope| {
-            for node in 0..threads as u16 {
-                let air = &air;
-                scope.spawn(move || for _ in 0..turns {
-                    let begun = air.lock().unwrap().begin(node);
-                    if begun.is_none() { return; }
-                    air.lock().unwrap().end(node, Vec::new());
-                });
-            }
-        });
-    }
+    std::thread::scope(|scope| {
+        for node in 0..threads as u16 {
+            let air = &air;
+            scope.spawn(move || for _ in 0..turns {
+                let begun = air.lock().unwrap().begin(node);
+                if begun.is_none() { return; }
+                air.lock().unwrap().end(node, Vec::new());
+            });
+        }
+    });
     println!("{}", air.lock().unwrap().entries);
 }
 """
@@ -67,14 +65,14 @@ def main():
     with tempfile.TemporaryDirectory() as folder:
         rust = rust_program(folder, RUST)
         for threads in (1, 4, 8):
-            each = turns // 2 // threads
+            each = turns // threads
             cost, printed = {}, set()
             for name, words in (("here", [ours, "bus"]), ("Rust", [rust])):
                 if words[0] is None:
                     continue
                 start, _ = seconds([*words, str(threads), "0"])
                 spent, said = seconds([*words, str(threads), str(each)])
-                cost[name] = (spent - start) / (2 * each * threads)
+                cost[name] = (spent - start) / (each * threads)
                 printed.add(said)
             line = f"{threads} threads: {cost['here'] * 1e9:8.0f} ns a turn"
             if "Rust" in cost:

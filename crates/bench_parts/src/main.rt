@@ -3,7 +3,6 @@
 
 mod air;
 mod bus;
-mod bus_rounds;
 mod packets;
 mod registry;
 
@@ -30,7 +29,7 @@ fn main(rt: HostRuntime) -> ExitCode {
     }
 }
 
-// The part, and how often it is done: for the bus by how many threads, and how many turns each takes a round.
+// The part, and how often it is done: for the bus by how many threads, and how many turns each takes.
 fn words(rt: &HostRuntime) -> io::Result<(String, u32, u32)> {
     let mut words = env::args(rt)?;
     let _ = words.next();

@@ -1,7 +1,7 @@
 use Rattle.std.proofs.Common.{◌≡◌, ◌+◌, ◌≤◌, ◌++◌, map, length, vec_len}
 use Rattle.std.specs.Prelude.{vec_capacity}
 use Rattle.bench_parts.specs.Works.{newcomer}
-use Rattle.bench_parts.proofs.bus_rounds.hire.Given as goal
+use Rattle.bench_parts.proofs.bus.hire.Given as goal
 
 abbrev pub invariant-loop-seat : goal.invariant-loop-seat
 invariant-loop-seat l =
