@@ -8,8 +8,9 @@ as Lists) that takes several lines it writes tries into a copy of the file: one 
 its recursive calls, in place of all equations (cases on options, sums and Booleans put together), of one equation, of the body behind a row
 of `let`s, of a field of a record, or of all that in a function of a `where`; and a last equation with `_` in place of all with the same
 right side. One `rt check --only` of an empty function that cites the copies says which pass. Of each lemma the try that saves most is
-taken; then names are left out of its list while it passes (--rounds, a check each). The sources get what is left, lemmas that then stand
-nowhere else go, and all other files are put back, also after an interrupt.
+taken; then names are left out of its list while it passes (--rounds, a check each). The sources get what is left, and lemmas that then
+stand nowhere else go. A lemma that lemmas of its file alone cite goes into these, where each of them passes with what its proof cites in its
+place, or as one call of `grind` (at most four checks). All other files are put back, also after an interrupt.
 
 Then run `rt check CRATE`, which proves the functions too. `rt tidy CRATE` drops imports that nothing uses. Lemmas are found by the layout
 of `rt fmt`; a file with no `pub` lemma is passed over.
@@ -133,8 +134,9 @@ class Tries:
 
     def text(self):
         """The file's lines, with `arith` in scope."""
-        text = '\n'.join(self.lines) + '\n'
-        return text if 'arith' in self.brought else text.replace('\nuse ', '\nuse Rattle.std.proofs.Common.{arith}\nuse ', 1)
+        text, common = '\n'.join(self.lines) + '\n', '\nuse Rattle.std.proofs.Common.{'
+        old, new = (common, common + 'arith, ') if common in text else ('\nuse ', common + 'arith}\nuse ')
+        return text if 'arith' in self.brought else text.replace(old, new, 1)
 
     def cited(self, text, skip):
         out = []
@@ -290,24 +292,92 @@ def fewer_names(equations):
                 yield equations[:i] + [line[:m.start()] + short + line[m.end():]] + equations[i + 1:]
 
 
+def all_names():
+    """How often each name stands in the repository."""
+    seen = collections.Counter()
+    for path in glob.glob('crates/*/[ps]*/**/*.antt', recursive=True) + glob.glob('crates/*/src/**/*.rt', recursive=True):
+        seen.update(re.findall(NAME, open(path).read()))
+    return seen
+
+
+def times(name, lines):
+    return re.findall(NAME, '\n'.join(lines)).count(name)
+
+
+def put(lines, spans):
+    """The lines with others in place of each stretch. Where there are none its comment goes too, the blank line below, and a module left empty."""
+    for begin, end, new in sorted(spans, key=lambda s: s[0], reverse=True):
+        while not new and lines[begin - 1].strip().startswith('--') and '----' not in lines[begin - 1]:
+            begin -= 1
+        lines[begin:end + (not new and end < len(lines) and not lines[end].strip())] = new
+        if re.match(r'\s*module .* where$', lines[begin - 1]) and (begin == len(lines) or indent_of(lines[begin]) <= indent_of(lines[begin - 1])):
+            del lines[begin - 1]
+
+
 def without_dead(folder):
     """Takes out lemmas whose names stand nowhere else in the repository."""
     dead = True
     while dead:
-        dead, seen = [], collections.Counter()
-        for path in glob.glob('crates/*/[ps]*/**/*.antt', recursive=True) + glob.glob('crates/*/src/**/*.rt', recursive=True):
-            seen.update(re.findall(NAME, open(path).read()))
+        dead, seen = [], all_names()
         for path in glob.glob(folder + '/proofs/*.antt'):
             lines = open(path).read().rstrip('\n').split('\n')
-            for f in reversed(lemmas_of(lines)):
-                begin, end = f.start, f.end + 1
-                if seen[f.name] == re.findall(NAME, '\n'.join(lines[begin:end])).count(f.name) > 0:
-                    while lines[begin - 1].strip().startswith('--') and '----' not in lines[begin - 1]:
-                        begin -= 1
-                    lines[begin:end + (end < len(lines) and not lines[end].strip())] = []
-                    dead.append(f.name)
+            here = [f for f in lemmas_of(lines) if seen[f.name] == times(f.name, lines[f.start:f.end + 1]) > 0]
+            put(lines, [(f.start, f.end + 1, []) for f in here])
+            dead += [f.name for f in here]
             open(path, 'w').write('\n'.join(lines).rstrip('\n') + '\n')
         print('taken out, since nothing cites them:', ', '.join(dead)) if dead else None
+
+
+def without_name(file, name, names, user):
+    """Tries for a lemma's equations, with these names in place of that one."""
+    def listed(m):
+        own = [n for x in re.split(r', (?![^(]*\))', m.group(1)) for n in (names if x == name else [x])]
+        return 'grind (%s)' % ', '.join(dict.fromkeys(own)) if len(set(own)) > 1 else 'grind ' + own[0]
+    kept, called = [], []
+    for lines in user.equations:
+        parsed = left_right(user, lines)
+        kept += [re.sub(r'grind \(((?:[^()]|\([^()]*\))*)\)', listed, x) for x in lines]
+        if times(name, lines) and parsed:
+            args = named([None if a == '_' else a for a in parsed[0]])
+            right = re.sub(r'(?<![\w\-.])' + re.escape(name) + r'(?![\w\-])', '(%s)' % ' '.join(names), parsed[1])
+            call = file.call(user, right, args, (), {w for a in args for w in WORD.findall(a)})
+            lines = [' '.join([' ' * user.indent + user.name] + args) + ' = ' + call]
+        called += lines
+    return [t for t in (kept, called) if not times(name, t) and is_balanced('\n'.join(t))]
+
+
+def proof_files(crate, files):
+    """The crate's files of lemmas, or those of these names."""
+    named = {os.path.basename(p)[:-5]: p for p in sorted(glob.glob(crate.folder + '/proofs/*.antt'))}
+    return [p for name, p in named.items() if name not in ('Lib', 'Words') and (not files or name in files)]
+
+
+def take_in(crate, files):
+    """Takes lemmas into those that cite them, and says whether there were any."""
+    handed_on, seen, tries, cases, busy, spans = re_exports(), all_names(), [], [], set(), collections.defaultdict(list)
+    for path in proof_files(crate, files):
+        file = Tries(path, handed_on)
+        for f in file.lemmas:
+            parsed, own = [left_right(f, e) for e in f.equations], times(f.name, file.lines[f.start:f.end + 1])
+            users = [u for u in file.lemmas if u is not f and times(f.name, sum(u.equations, []))]
+            everywhere = seen[f.name] if f.indent or f.head[0].startswith('pub ') else times(f.name, file.lines)
+            if users and None not in parsed and own == 1 + len(f.equations) and everywhere == own + sum(
+                    times(f.name, sum(u.equations, [])) for u in users):
+                names = file.cited(' '.join(right for _, right in parsed), set())
+                tries += [(file, u, t, f) for u in users for t in without_name(file, f.name, names, u)]
+                cases.append((file, f, users))
+    passed = [tries[n] for n in sorted(crate.check(tries))] if tries else []
+    crate.put_back()
+    for file, f, users in sorted(cases, key=lambda c: -count(sum(c[1].equations, []))):
+        best = [min((t[2] for t in passed if t[1] is u and t[3] is f), key=lambda t: (count(t), len(str(t))), default=None) for u in users]
+        if None not in best and not busy & {f, *users} and sum(map(count, best)) <= sum(count(sum(u.equations, [])) for u in users):
+            busy |= {f, *users}
+            spans[file] += [(f.start, f.end + 1, [])] + [(u.start + len(u.head), u.end + 1, t) for u, t in zip(users, best)]
+            print(os.path.basename(file.path), f.name, 'goes into', ', '.join(u.name for u in users), flush=True)
+    for file in spans:
+        put(file.lines, spans[file])
+        open(file.path, 'w').write(file.text())
+    return bool(spans)
 
 
 def re_exports():
@@ -328,11 +398,9 @@ def main():
         ask.add_argument(flag, type=int, default=default)
     asked = ask.parse_args()
     crate, tries, best, handed_on = Crate(asked.crate, asked.jobs), [], {}, re_exports()
-    for path in sorted(glob.glob(crate.folder + '/proofs/*.antt')):
-        name = os.path.basename(path)[:-5]
-        if name not in ('Lib', 'Words') and (not asked.files or name in asked.files):
-            file = Tries(path, handed_on)
-            tries += [(file, f, new, saved) for f in file.lemmas for saved, new in file.of(f) if saved >= asked.least]
+    for path in proof_files(crate, asked.files):
+        file = Tries(path, handed_on)
+        tries += [(file, f, new, saved) for f in file.lemmas for saved, new in file.of(f) if saved >= asked.least]
     print(len(tries), 'tries', flush=True)
     try:
         for n in crate.check(tries):
@@ -353,6 +421,12 @@ def main():
         open(file.path, 'w').write(file.text())
     print(len(best), 'lemmas,', sum(b[3] for b in best.values()), 'lines fewer', flush=True)
     without_dead(crate.folder)
+    try:
+        for _ in range(4):
+            if not take_in(crate, asked.files):
+                break
+    finally:
+        crate.put_back()
 
 
 main()

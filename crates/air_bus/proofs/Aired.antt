@@ -1,7 +1,7 @@
 -- What follows for an aired history.
-use Rattle.std.proofs.Common.{◌≡◌, ◌≢◌, ℕ, ◌-◌, ◌==◌, ◌++◌, Bool, List, [], ◌∷◌, map, Some, fold, subst, append_assoc, arith}
+use Rattle.std.proofs.Common.{◌≡◌, ℕ, ◌-◌, ◌==◌, ◌++◌, Bool, List, [], ◌∷◌, map, Some, fold, subst, append_assoc, arith}
 use Rattle.std.specs.Prelude.{Option, option_map, find, nat_lt}
-use Rattle.air_bus.proofs.Words.{cond_both, eqb-true, Mem, Each, mem_left, mem_right, each_append, each_more, each_from, Kind, PlanView, Input, Packet, Entry, Begin, End, Stop, Phase, Busy, Copy, copies_of, take_out, sooner, next_copy, packet_input, or_other, Received, nothing, link_fate, arriving, puts_one, one_packet, puts, taken_by, after_entry, waiting, MayFollow, next_input, node_of, phase, IsStart, Fits, Sent, sent_to, sent_by, sent}
+use Rattle.air_bus.proofs.Words.{cond_both, eqb-true, Mem, Each, mem_left, mem_right, each_append, each_more, each_from, Kind, PlanView, Input, Packet, Entry, Begin, End, Stop, Copy, copies_of, take_out, sooner, next_copy, packet_input, or_other, Received, nothing, link_fate, arriving, puts_one, one_packet, puts, taken_by, after_entry, waiting, MayFollow, node_of, phase, IsStart, Fits, Sent, sent_to, sent_by, sent}
 
 -- ---- turns alternate
 
@@ -9,11 +9,8 @@ use Rattle.air_bus.proofs.Words.{cond_both, eqb-true, Mem, Each, mem_left, mem_r
 no_start : (next : Option Copy) (tick wants : Bool) (i : Input) → or_other (option_map packet_input next) tick wants ≡ Some i → IsStart i → ⊥
 no_start h tick wants i is start = grind arith
 
-fits_begin : (p : Phase) (next : Option Copy) (tick wants : Bool) (node : ℕ) (i : Input) → p ≢ Busy → next_input p next tick wants ≡ Some i → Fits p (Begin node i)
-fits_begin h next tick wants node i closed is = grind arith
-
 pub fits : (plan : PlanView) (kinds : List Kind) (before : List Entry) (e : Entry) → MayFollow plan kinds before e → Fits (phase (node_of e) before) e
-fits plan kinds before h may = grind (arith, fits_begin, phase)
+fits plan kinds before h may = grind (arith, phase)
 
 -- ---- what was delivered was sent
 
@@ -34,9 +31,6 @@ each_sooner : (n : ℕ) (ss : List Sent) (cs : List Copy) → Each (IsSent n ss)
 each_sooner n ss [] e = tt
 each_sooner n ss (c ∷ cs) e = (e.0, each_sooner n ss cs e.1)
 
-each_taken : (n : ℕ) (ss : List Sent) (i : Input) (r : Received) → Each (IsSent n ss) r.copies → Each (IsSent n ss) (taken_by i r).copies
-each_taken n ss h r e = grind (arith, each_sooner, each_out)
-
 module _ (plan : PlanView) (kinds : List Kind) (n : ℕ) where
   each_packet : (ss : List Sent) (from : ℕ) (is_kept : Bool) (r : Received) (p : ℕ × List ℕ) → Mem (sent_to from p) ss → Each (IsSent n ss) r.copies → Each (IsSent n ss) (one_packet plan kinds n from is_kept r p).copies
   each_packet ss from is_kept r p m e = grind (arith, cond_both, puts_one, eqb-true, each_append, arriving, copies_of, link_fate)
@@ -56,8 +50,7 @@ module _ (plan : PlanView) (kinds : List Kind) (n : ℕ) where
   wider ss ts cs e = each_more (IsSent n ss) (IsSent n (ss ++ ts)) cs (λ c m. mem_left (record { from = c.from; to = n; bytes = c.bytes }) ss ts m) e
 
   each_entry : (ss : List Sent) (r : Received) (e : Entry) → Each (IsSent n ss) r.copies → Each (IsSent n (ss ++ sent_by e)) (after_entry plan kinds n r e).copies
-  each_entry ss r (Begin m i) all = cond_both (m == n) (taken_by i r) r (λ (x : Received). Each (IsSent n (ss ++ [])) x.copies)
-      (λ _. wider ss [] (taken_by i r).copies (each_taken n ss i r all)) (λ _. wider ss [] r.copies all)
+  each_entry ss r (Begin m i) all = grind (arith, cond_both, taken_by, wider, each_sooner, each_out)
   each_entry ss r (End m noted ps kept) all = each_puts (ss ++ map (sent_to m) ps) m ps kept r (all_sent ss m ps) (wider ss (map (sent_to m) ps) r.copies all)
   each_entry ss r (Stop m landed) all = wider ss [] r.copies all
 
@@ -70,10 +63,6 @@ module _ (plan : PlanView) (kinds : List Kind) (n : ℕ) where
 pub waiting_sent : (plan : PlanView) (kinds : List Kind) (n : ℕ) (h : List Entry) → Each (IsSent n (sent h)) (waiting plan kinds n h)
 waiting_sent plan kinds n h = each_received plan kinds n [] nothing h tt
 
--- a packet is next only where it is the next copy
-packet_next : (p : Phase) (next : Option Copy) (tick wants : Bool) (from : ℕ) (bytes : List ℕ) → p ≢ Busy → next_input p next tick wants ≡ Some (Packet from bytes) → (c : Copy) × (next ≡ Some c) × (c.from ≡ from) × (c.bytes ≡ bytes)
-packet_next h next tick wants from bytes closed is = grind arith
-
 pub delivered : (plan : PlanView) (kinds : List Kind) (before : List Entry) (node from : ℕ) (bytes : List ℕ) → MayFollow plan kinds before (Begin node (Packet from bytes))
     → Mem (record { from = from; to = node; bytes = bytes }) (sent before)
-delivered plan kinds before node from bytes may = grind (arith, packet_next, phase, next_copy, waiting, each_found, waiting_sent)
+delivered plan kinds before node from bytes may = grind (arith, phase, next_copy, waiting, each_found, waiting_sent)

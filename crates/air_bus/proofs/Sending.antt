@@ -1,5 +1,5 @@
 -- What the packets of an end do to the inboxes.
-use Rattle.std.proofs.Common.{◌≡◌, ℕ, suc, zero, ◌+◌, ◌-◌, ◌<◌, ◌==◌, Bool, true, false, if◌then◌else◌, List, [], ◌∷◌, length, get_or, set, take, drop, fold, refl, sym, ap, ◌∙◌, subst, arith, get_or-set_other, get_or-set_same, eq-eqb, ne_eqb}
+use Rattle.std.proofs.Common.{◌≡◌, ℕ, suc, zero, ◌+◌, ◌<◌, ◌==◌, Bool, true, false, if◌then◌else◌, List, [], ◌∷◌, length, get_or, set, take, drop, fold, refl, sym, ap, ◌∙◌, subst, arith, get_or-set_other, get_or-set_same, eq-eqb, ne_eqb}
 use Rattle.air_bus.proofs.Words.{lt-ltb, get_or_read, fold_more, dite, ℕ_discrete, Kind, PlanView, Inbox, Keeps, Turns, AllTurn, Received, puts, puts_one, one_packet}
 
 module _ (plan : PlanView) (kinds : List Kind) where

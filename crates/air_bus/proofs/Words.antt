@@ -11,7 +11,7 @@ pub use Rattle.air_bus.specs.Waiting.{Received, after_entry, arriving, is_dead, 
 pub use Rattle.air_bus.specs.declared.entry.Entry.{Entry}
 pub use Rattle.air_bus.specs.declared.entry.Entry.TheVariants.{Begin, End, Stop}
 pub use Rattle.air_bus.specs.declared.entry.Input.{Input}
-pub use Rattle.air_bus.specs.declared.entry.Input.TheVariants.{Own, Packet, Start, Tick}
+pub use Rattle.air_bus.specs.declared.entry.Input.TheVariants.{Packet}
 pub use Rattle.air_bus.specs.declared.entry.Phase.{Phase}
 pub use Rattle.air_bus.specs.declared.entry.Phase.TheVariants.{Busy, Down, Idle}
 pub use Rattle.air_bus.specs.declared.inbox.Inbox.{Inbox}
@@ -20,10 +20,9 @@ pub use Rattle.list_words.proofs.Lists.{each_append, each_from, each_more, mem_l
 pub use Rattle.list_words.specs.Lists.{Each, EachPair, Mem}
 pub use Rattle.lossy_link.specs.Fates.{PlanView}
 pub use Rattle.lossy_link.specs.declared.plan.Fate.{Fate}
-pub use Rattle.lossy_link.specs.declared.plan.Fate.TheVariants.{Deliver, Drop, Late, Twice}
 pub use Rattle.lossy_link.specs.declared.plan.Kind.{Kind}
 pub use Rattle.std.proofs.Crossing.{crosses}
-pub use Rattle.std.proofs.lemmas.Bool.{and_from, and_parts, cases_lt, cond_both, eq-eqb, eqb-false, eqb-true, le-leb, leb-true, lt-ltb, ltb-false, ltb-true, ne_eqb, or_cases, or_left, or_right, true≢false}
+pub use Rattle.std.proofs.lemmas.Bool.{and_from, cases_lt, cond_both, eq-eqb, eqb-true, le-leb, leb-true, lt-ltb, ltb-true, or_cases, or_left, or_right, true≢false}
 pub use Rattle.std.proofs.lemmas.List.{get_or_read, length-map, length-set, map-append, take_all}
 pub use Rattle.std.proofs.lemmas.List.Elements.{All-cons, All-from_recursion, All-head, All-tail}
 pub use Rattle.std.proofs.lemmas.List.Sorted.{All-permutation, sum_by_popped, sum_by_pushed}
@@ -32,10 +31,9 @@ pub use Rattle.std.proofs.lemmas.Slice.Eq.{bytes_eq-Decides}
 pub use Rattle.std.specs.BinaryHeap.{IsHeap, IsUpperBound, heap_items, heap_len}
 pub use Rattle.std.specs.Borrow.{Bor}
 pub use Rattle.std.specs.List.{All, list_any}
-pub use Rattle.std.specs.Ordering.{flip_args, is_lt, nat_cmp, on, ordering_then, then_cmp}
+pub use Rattle.std.specs.Ordering.{flip_args, is_lt, nat_cmp, on, then_cmp}
 pub use Rattle.std.specs.Str.{bytes_eq}
 pub use Rattle.std.specs.declared.cmp.Ordering.{Ordering}
-pub use Rattle.std.specs.declared.cmp.Ordering.TheVariants.{Equal, Greater, Less}
 pub use base.Shift.{Keyless}
 pub use denote.Model.Knot.{stage}
 pub use denote.Param.Send.{IsSend, sendable}

@@ -1,7 +1,7 @@
 -- What is answered, among all that wait or among a part, and what is left.
 use Rattle.std.proofs.Common.{◌≡◌, ◌≤◌, ◌&&◌, Bool, true, false, not, filter, List, [], ◌∷◌, ◌++◌, Some, None, refl, sym, ap, ◌∙◌, arith}
 use Rattle.std.specs.Prelude.{Option, is_some, option_to_list}
-use Rattle.batch_queue.proofs.Words.{option_map, AllByRecursion, list_any, true≢false, EventId, same_id, Token, Insert, Batch, Answer, bound_of, first_in, replay, answered, unanswered, replays, IsUnanswered}
+use Rattle.batch_queue.proofs.Words.{option_map, AllByRecursion, list_any, true≢false, EventId, same_id, Insert, Batch, Answer, bound_of, first_in, answered, unanswered, replays, IsUnanswered}
 use Rattle.batch_queue.proofs.Claims.{none_ahead}
 
 -- the insert with its answer, where it has one
@@ -28,14 +28,10 @@ first_none : (g : Insert → Option Answer) (xs ys : List Insert) → answered g
 first_none g [] ys h = refl
 first_none g (x ∷ xs) ys h = grind (arith, first_none g xs ys)
 
--- an id without an answer isn't below the bound
-young : (vs : List Batch) (i : EventId) (t : Token) → replay vs i t ≡ None → bound_of vs ≤ i.micros
-young vs i t h = grind arith
-
 -- where the bound stays, only inserts of the batch's ids are answered
 pub among_ids : (vs : List Batch) (v : Batch) (p : EventId → Bool) (settled newest : List Insert) → v.bound ≤ bound_of vs → ((i : EventId) → p i ≡ is_some (first_in v.inserts i)) → IsUnanswered vs (settled ++ newest)
     → answered (replays (vs ++ v ∷ [])) (filter (λ x. p x.id) settled ++ newest) ≡ answered (replays (vs ++ v ∷ [])) (settled ++ newest)
-among_ids vs v p settled newest le has none = grind (arith, none_ahead, young, answered-append, among_part, first_none)
+among_ids vs v p settled newest le has none = grind (arith, none_ahead, answered-append, among_part, first_none)
 
 -- ---- what is left
 
@@ -59,16 +55,10 @@ dropped_is : (all : List (Insert × Answer)) (xs : List Insert) → dropped all 
 dropped_is [] xs = filter_all xs
 dropped_is (a ∷ all) xs = grind (arith, filter_filter, dropped_is all)
 
-told_more : (f : Insert → Option Answer) (x : Insert) (xs : List Insert) (y : Insert) → is_told (answered f xs) y ≡ true → is_told (answered f (x ∷ xs)) y ≡ true
-told_more f x xs y h = grind arith
-
-told_first : (f : Insert → Option Answer) (x : Insert) (xs : List Insert) → is_some (f x) ≡ true → is_told (answered f (x ∷ xs)) x ≡ true
-told_first f x xs h = grind arith
-
 -- each that has an answer is told
 told_all : (f : Insert → Option Answer) (all xs : List Insert) → ((x : Insert) → is_told (answered f xs) x ≡ true → is_told (answered f all) x ≡ true) → AllByRecursion (λ x. is_some (f x) ≡ true → is_told (answered f all) x ≡ true) xs
 told_all f all [] h = tt
-told_all f all (x ∷ xs) h = (λ k. h x (told_first f x xs k), told_all f all xs (λ y k. h y (told_more f x xs y k)))
+told_all f all (x ∷ xs) h = grind (arith, told_all f all xs)
 
 -- one whose id is told has an answer, where the id alone says whether there is one
 told_only : (f : Insert → Option Answer) → ((x y : Insert) → same_id x.id y.id ≡ true → is_some (f x) ≡ true → is_some (f y) ≡ true) → (xs : List Insert) (y : Insert) → is_told (answered f xs) y ≡ true → is_some (f y) ≡ true

@@ -1,6 +1,6 @@
 -- Numbered inserts: one more, and those of an id taken out or put together.
 use Rattle.std.proofs.Common.{◌≡◌, ℕ, suc, ◌<◌, ◌≤◌, ◌||◌, Bool, true, false, not, cond, List, [], ◌∷◌, ◌++◌, filter, take, ◌+◌, refl, sym, ap, ◌∙◌, arith}
-use Rattle.batch_queue.proofs.Words.{nat_cmp, match_ordering, is_eq, Ordering, Equal, Greater, nat_cmp_is, values_of, remove_entry, insert_entry, is_at, list_any, append_assoc, EventId, same_id, Insert, same_id-true, IsNumbered, with_id, without, with_all}
+use Rattle.batch_queue.proofs.Words.{nat_cmp, match_ordering, is_eq, Ordering, Equal, Greater, nat_cmp_is, values_of, remove_entry, insert_entry, is_at, list_any, append_assoc, EventId, same_id, Insert, IsNumbered, with_id, without, with_all}
 
 equal : (n : ℕ) → nat_cmp n n ≡ Equal
 equal n = sym (nat_cmp_is n n Equal refl)
@@ -122,21 +122,7 @@ with_id-push i (x ∷ es) e = grind (arith, with_id-push i es e)
 -- where those of one id are gone, none of it is left, and all of each other id
 pub with_id-less : (j i : EventId) (es : List (ℕ × Insert)) → with_id i (filter (λ e. not (same_id j e.1.id)) es) ≡ cond (same_id j i) [] (with_id i es)
 with_id-less j i [] = grind arith
-with_id-less j i (e ∷ es) = go (same_id i e.1.id) (same_id j e.1.id) refl refl (with_id-less j i es)
-  where
-    left : List (ℕ × Insert)
-    left = filter (λ e. not (same_id j e.1.id)) es
-
-    go : (a b : Bool) → same_id i e.1.id ≡ a → same_id j e.1.id ≡ b → with_id i left ≡ cond (same_id j i) [] (with_id i es)
-        → with_id i (cond (not b) (e ∷ left) left) ≡ cond (same_id j i) [] (cond a (e ∷ with_id i es) (with_id i es))
-    go true true f h r =
-        let s : same_id j i ≡ true = ap (same_id j) (same_id-true i e.1.id f) ∙ h in
-        r ∙ ap (λ b. cond b [] (with_id i es)) s ∙ sym (ap (λ b. cond b [] (e ∷ with_id i es)) s)
-    go true false f h r =
-        let s : same_id j i ≡ false = ap (same_id j) (same_id-true i e.1.id f) ∙ h in
-        ap (λ b. cond b (e ∷ with_id i left) (with_id i left)) f ∙ ap (λ (xs : List (ℕ × Insert)). e ∷ xs) (r ∙ ap (λ b. cond b [] (with_id i es)) s) ∙ sym (ap (λ b. cond b [] (e ∷ with_id i es)) s)
-    go false true f h r = r
-    go false false f h r = ap (λ b. cond b (e ∷ with_id i left) (with_id i left)) f ∙ r
+with_id-less j i (e ∷ es) = grind (arith, with_id-less j i es)
 
 -- where there are none, all are left
 pub none_gone : (i : EventId) (es : List (ℕ × Insert)) → [] ≡ with_id i es → filter (λ e. not (same_id i e.1.id)) es ≡ es

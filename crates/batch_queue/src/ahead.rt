@@ -11,6 +11,7 @@ use std::alloc::{AllocError, Global};
 use std::collections::{BTreeMap, HashSet};
 
 // The ids of the batch's inserts, in time linear in them.
+#[tactic(auto, using(crate::proofs::Words::drop_more, crate::proofs::Claims::one_more))]
 pub(crate) fn ids_of(alloc: Global, batch: &Batch) -> Result<HashSet<EventId>, AllocError>
     ensures { IfOk result (λ ids. HasIds ids batch.now) }
 {
@@ -23,6 +24,7 @@ pub(crate) fn ids_of(alloc: Global, batch: &Batch) -> Result<HashSet<EventId>, A
 
 // What the registry would answer, had the batch been applied. Constant expected time where that is nothing; else a look
 // ahead.
+#[tactic(auto, using(crate::proofs::Claims::none_ahead))]
 pub(crate) fn answer_ahead<R: Replays>(
     registry: &R,
     batch: &Batch,

@@ -75,6 +75,7 @@ impl BatchQueue {
 
     /// Makes room for one insert more. It takes logarithmic expected time, and allocates for the newest insert's place in
     /// the order. It is refused for want of memory alone, or when 2^64 - 1 inserts have come.
+    #[tactic(auto, using(crate::proofs::Waiting::once_last))]
     pub fn make_room(&mut self) -> Result<(), AllocError>
         ensures room { OnOk result (0 < room self.new) }
         ensures kept { room self.old ≤ room self.new }
@@ -177,6 +178,7 @@ impl BatchQueue {
 
     /// Takes those out that have an answer, told which these are. The others keep their order. It takes no memory, and
     /// logarithmic expected time for each that is told.
+    #[tactic(auto, using(crate::proofs::Words::drop_all, crate::proofs::Answering::dropped, crate::proofs::Answering::dropped_answered))]
     pub fn drop_answered(&mut self, all: &Answered)
         ensures left { (vs : _) → all.now ≡ answered (replays vs) (waiting self.old) → waiting self.new ≡ unanswered (replays vs) (waiting self.old) }
         ensures room { room self.old ≤ room self.new }

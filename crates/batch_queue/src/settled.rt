@@ -1,5 +1,5 @@
 // The inserts that have their places in the order, found by their tokens and by their ids.
-ghost use Rattle.std.specs.Prelude.{◌≡◌, ◌++◌, ◌∷◌, [], ◌&&◌, ◌<◌, ℕ, List, not, take, length, filter, is_some, false, OnOk, OnErr, IfOk};
+ghost use Rattle.std.specs.Prelude.{◌≡◌, ◌++◌, ◌∷◌, [], ◌&&◌, ◌<◌, List, not, take, length, filter, false, OnOk, OnErr, IfOk};
 ghost use Rattle.std.specs.Map.{values_of};
 ghost use Rattle.std.specs.HashSet.{contains};
 ghost use Rattle.std.specs.List.{IsDistinct-prop};
@@ -73,6 +73,7 @@ impl Settled {
     }
 
     // One more, last. Logarithmic expected time. It is refused for want of memory, and once all numbers are used.
+    #[tactic(auto, using(crate::proofs::Numbered::insert_last, crate::proofs::Numbered::remove_last))]
     pub(crate) fn push(&mut self, insert: Insert) -> Result<(), AllocError>
         requires { has_token (settled self.old) insert.token ≡ false }
         ensures ok { OnOk result (settled self.new ≡ settled self.old ++ insert ∷ []) }

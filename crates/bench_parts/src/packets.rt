@@ -1,6 +1,6 @@
 // Insert packets to bytes and back.
 use crate::registry::insert;
-use packet_codec::{DecodeFault, decode, encode};
+use packet_codec::{DecodeFault, Origin, decode, encode};
 use std::alloc::{AllocError, Global};
 use turn_defs::Packet;
 
@@ -30,7 +30,7 @@ pub fn decoded(alloc: Global, count: u32) -> Result<u64, AllocError> {
 
 // The number of the packet's token, 0 for any other packet.
 fn number_in(alloc: Global, bytes: &[u8]) -> Result<u64, AllocError> {
-    match decode(alloc, bytes) {
+    match decode(Origin::new(alloc), bytes) {
         Ok(Packet::Insert(insert)) => Ok(insert.token.number),
         Ok(_) | Err(DecodeFault::BadPacket { .. }) => Ok(0),
         Err(DecodeFault::Memory) => Err(AllocError),

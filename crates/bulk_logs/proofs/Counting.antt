@@ -28,12 +28,7 @@ Entry = EventId × ClickRec
 module _ (P : EventId → Type 0) where
   keys_put : (es : List Entry) (k : EventId) (v : ClickRec) → P k → AllByRecursion (λ (e : Entry). P e.0) es → AllByRecursion (λ (e : Entry). P e.0) (finite.put id_cmp k v es)
   keys_put [] k v p h = (p, tt)
-  keys_put (e ∷ es) k v p h = go (id_cmp k e.0) (keys_put es k v p h.1)
-    where
-      go : (o : Ordering) → AllByRecursion (λ (d : Entry). P d.0) (finite.put id_cmp k v es) → AllByRecursion (λ (d : Entry). P d.0) (by_order o ((k, v) ∷ e ∷ es) ((e.0, v) ∷ es) (e ∷ finite.put id_cmp k v es))
-      go Less more = (p, h)
-      go Equal more = h
-      go Greater more = (h.0, more)
+  keys_put (e ∷ es) k v p h = grind (arith, keys_put es k v p h.1)
 
   keys_made : (cs : List ClickRec) → AllByRecursion (λ (c : ClickRec). P c.id) cs → AllByRecursion (λ (e : Entry). P e.0) (made cs)
   keys_made [] h = subst (AllByRecursion (λ (e : Entry). P e.0)) (sym made_nil) tt

@@ -1,12 +1,12 @@
 -- Logs that grow by a line.
-use Rattle.std.proofs.Common.{◌≡◌, ℕ, suc, ◌+◌, ◌*◌, ◌/◌, ◌^◌, List, [], ◌∷◌, ◌++◌, map, sym, ap, ◌∙◌, arith}
+use Rattle.std.proofs.Common.{◌≡◌, ℕ, suc, ◌+◌, ◌*◌, ◌/◌, ◌^◌, List, [], ◌∷◌, ◌++◌, map, ap, ◌∙◌, arith}
 use Rattle.std.specs.List.{range_with_len}
 use Rattle.std.proofs.lemmas.Grind.{flat_map-append}
 use Rattle.std.proofs.lemmas.List.{append-nil, map_push}
 use Rattle.std.proofs.lemmas.List.FromFn.{map-range_with_len_more}
 use Rattle.log_records.specs.Line.{query_line, click_line}
 use Rattle.log_records.specs.Log.{line_feed, whole}
-use Rattle.bulk_logs.specs.Bulk.{after, x_after, drawn, query_made, click_made, query_at, click_at, query_log, click_log}
+use Rattle.bulk_logs.specs.Bulk.{after, x_after, drawn, query_made, click_made, query_log, click_log}
 
 -- one record more
 module _ {R : Type 0} (line_of : R → List ℕ) (at : ℕ → R) where
@@ -26,17 +26,11 @@ next_after seed k x y z is e f =
     f ∙ ap after (e ∙ ap after is) ∙ ap (x_after seed) steps
 
 pub other_drawn : (seed k x y z other : ℕ) → x ≡ x_after seed (2 * k) → y ≡ after x → z ≡ after y → other ≡ z / 2 ^ 33 → other ≡ drawn seed (2 * k + 1)
-other_drawn seed k x y z other is e f drawn_is =
-    let steps : suc (suc (2 * k)) ≡ suc (2 * k + 1) = omega arith in
-    drawn_is ∙ ap (λ (w : ℕ). w / 2 ^ 33) (f ∙ ap after (e ∙ ap after is) ∙ ap (x_after seed) steps)
+other_drawn seed k x y z other is e f drawn_is = grind arith
 
 -- both logs with one line more
 pub query_log_more : (seed k one other : ℕ) (old new : List ℕ) → old ≡ query_log seed k → one ≡ drawn seed (2 * k) → other ≡ drawn seed (2 * k + 1) → new ≡ old ++ (query_line (query_made k one other) ++ line_feed ∷ []) → new ≡ query_log seed (k + 1)
-query_log_more seed k one other old new so_far a b e =
-    e ∙ ap (λ (t : List ℕ). t ++ (query_line (query_made k one other) ++ line_feed ∷ [])) so_far ∙ ap (λ (m : ℕ). query_log seed k ++ (query_line (query_made k m other) ++ line_feed ∷ [])) a
-    ∙ ap (λ (m : ℕ). query_log seed k ++ (query_line (query_made k (drawn seed (2 * k)) m) ++ line_feed ∷ [])) b ∙ sym (grown query_line (query_at seed) k)
+query_log_more seed k one other old new so_far a b e = grind (arith, grown)
 
 pub click_log_more : (seed k one other : ℕ) (old new : List ℕ) → old ≡ click_log seed k → one ≡ drawn seed (2 * k) → other ≡ drawn seed (2 * k + 1) → new ≡ old ++ (click_line (click_made k one other) ++ line_feed ∷ []) → new ≡ click_log seed (k + 1)
-click_log_more seed k one other old new so_far a b e =
-    e ∙ ap (λ (t : List ℕ). t ++ (click_line (click_made k one other) ++ line_feed ∷ [])) so_far ∙ ap (λ (m : ℕ). click_log seed k ++ (click_line (click_made k m other) ++ line_feed ∷ [])) a
-    ∙ ap (λ (m : ℕ). click_log seed k ++ (click_line (click_made k (drawn seed (2 * k)) m) ++ line_feed ∷ [])) b ∙ sym (grown click_line (click_at seed) k)
+click_log_more seed k one other old new so_far a b e = grind (arith, grown)

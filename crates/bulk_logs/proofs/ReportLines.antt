@@ -1,8 +1,8 @@
 -- Which line each click has in the report.
-use Rattle.std.proofs.Common.{◌≡◌, ◌≢◌, ℕ, zero, suc, ◌+◌, ◌*◌, ◌%◌, ◌<◌, ◌≤◌, ◌++◌, Bool, true, false, cond, ◌&&◌, ◌==◌, nat_lt, Option, Some, None, is_some, find, [], ◌∷◌, map, codes, decimal, refl, sym, ap, subst, ◌∙◌, arith}
+use Rattle.std.proofs.Common.{◌≡◌, ◌≢◌, ℕ, zero, suc, ◌+◌, ◌*◌, ◌%◌, ◌<◌, ◌≤◌, ◌++◌, Bool, true, false, cond, ◌&&◌, ◌==◌, Option, Some, None, is_some, find, [], ◌∷◌, map, codes, decimal, refl, ap, ◌∙◌, arith}
 use Rattle.std.specs.List.{range_with_len, count_by}
 use Rattle.std.specs.declared.cmp.Ordering.TheVariants.{Equal}
-use Rattle.std.proofs.lemmas.Bool.{cond_both, ltb-true, ltb-false, eqb-true, eqb-false, ne_eqb, eq-eqb, and_from}
+use Rattle.std.proofs.lemmas.Bool.{cond_both, ltb-true, eqb-true, eqb-false, ne_eqb, eq-eqb, and_from}
 use Rattle.event_id.specs.declared.id.EventId.{EventId}
 use Rattle.event_id.specs.EventId.{is_same, id_cmp}
 use Rattle.log_records.specs.declared.records.QueryRec.{QueryRec}
@@ -12,8 +12,7 @@ use Rattle.log_records.specs.declared.report.ReportLine.{ReportLine}
 use Rattle.log_records.specs.declared.report.ReportLine.TheVariants.{J, M, X, U}
 use Rattle.log_records.specs.Report.{is_joined, is_missing, is_expired, is_unmatched, totals, line_of, pair_or_none}
 use Rattle.bulk_logs.specs.Bulk.{drawn, query_id, click_micros, nowhere, query_at, click_at, queries, clicks, horizon, lines, kinds, kinds_made, totals_made, joined, expired, unmatched}
-use Rattle.bulk_logs.proofs.Valid.{click_apart}
-use Rattle.bulk_logs.proofs.Counting.{tied_micros, count_lines, apart_made, counted}
+use Rattle.bulk_logs.proofs.Counting.{count_lines, apart_made, counted}
 
 -- ---- what is found in a list that is made from places
 
@@ -24,16 +23,8 @@ module _ {R : Type 0} (test : R → Bool) (at : ℕ → R) where
 
   some_found : (a n k : ℕ) → k < n → test (at (a + k)) ≡ true → is_some (find test (map at (range_with_len a n))) ≡ true
   some_found a zero k lt e = absurd (omega arith)
-  some_found a (suc n) zero lt e =
-      let here : a + 0 ≡ a = omega arith in
-      ap (λ b. is_some (cond b (Some (at a)) (find test (map at (range_with_len (a + 1) n))))) (ap (λ m. test (at m)) (sym here) ∙ e)
-  some_found a (suc n) (suc k) lt e =
-      let there : (a + 1) + k ≡ a + suc k = omega arith in
-      later (test (at a)) (some_found (a + 1) n k (omega arith) (ap (λ m. test (at m)) there ∙ e))
-    where
-      later : (b : Bool) → is_some (find test (map at (range_with_len (a + 1) n))) ≡ true → is_some (cond b (Some (at a)) (find test (map at (range_with_len (a + 1) n)))) ≡ true
-      later true h = refl
-      later false h = h
+  some_found a (suc n) zero lt e = grind arith
+  some_found a (suc n) (suc k) lt e = grind (arith, some_found (a + 1) n k (omega arith))
 
 same_itself : (i : EventId) → is_same i i ≡ true
 same_itself i = and_from (i.ip == i.ip) ((i.pid == i.pid) && (i.micros == i.micros)) (eq-eqb i.ip i.ip refl) (and_from (i.pid == i.pid) (i.micros == i.micros) (eq-eqb i.pid i.pid refl) (eq-eqb i.micros i.micros refl))
@@ -66,52 +57,31 @@ is_young : (k : ℕ) → k < 100000 → horizon ≤ click_micros k → k % 10 �
 is_young k low = cond_both (k % 10 == 4) (500000 + k) (2000000 + 10 * k) (λ m. horizon ≤ m → k % 10 ≢ 4) (λ _ le. absurd (omega arith)) (λ f le. eqb-false (k % 10) 4 f)
 
 pair_fits : (k : ℕ) (c : ClickRec) (o : Option QueryRec) → is_some o ≡ true → k % 10 ≢ 4 → k % 10 ≢ 9 → Fits k (pair_or_none c o)
-pair_fits k c None e a b = absurd (cc)
-pair_fits k c (Some q) e a b = (a, b)
+pair_fits k c h e a b = grind arith
 
 young_fits : (seed n k : ℕ) → k < n → k % 10 ≢ 4 → Fits k (pair_or_none (click_at seed k) (first (queries seed n) (click_at seed k).query))
-young_fits seed n k lt young =
-    cond_both (k % 10 == 9) (nowhere k) (query_at seed k).id (λ i. Fits k (pair_or_none (click_at seed k) (first (queries seed n) i)))
-    (λ t. subst (λ (o : Option QueryRec). Fits k (pair_or_none (click_at seed k) o)) (sym (no_query seed n k)) (eqb-true (k % 10) 9 t))
-    (λ f. pair_fits k (click_at seed k) (first (queries seed n) (query_at seed k).id) (a_query seed n k lt) young (eqb-false (k % 10) 9 f))
+young_fits seed n k lt young = grind (arith, cond_both, no_query, pair_fits, a_query)
 
 line_fits : (seed n k : ℕ) → n ≤ 100000 → k < n → Fits k (line_of (queries seed n) horizon (click_at seed k))
-line_fits seed n k le lt =
-    cond_both (nat_lt (click_micros k) horizon) (X (click_at seed k).id) (pair_or_none (click_at seed k) (first (queries seed n) (click_at seed k).query)) (Fits k)
-    (λ t. is_old k (ltb-true (click_micros k) horizon t))
-    (λ f. young_fits seed n k lt (is_young k (omega arith) (ltb-false (click_micros k) horizon f)))
+line_fits seed n k le lt = grind (arith, cond_both, is_old, ltb-true, young_fits)
 
 -- ---- how many lines there are of each kind
 
 joined_more : (k : ℕ) (l : ReportLine) → Fits k l → joined (k + 1) ≡ joined k + cond (is_joined l) 1 0
-joined_more k (J c q) h = omega (arith, h.0, h.1)
-joined_more k (M id) h = absurd h
-joined_more k (X id) h = omega (arith, h)
-joined_more k (U id) h = omega (arith, h)
+joined_more k e h = grind arith
 
 missing_more : (k : ℕ) (l : ReportLine) → Fits k l → 0 ≡ 0 + cond (is_missing l) 1 0
-missing_more k (J c q) h = refl
-missing_more k (M id) h = absurd h
-missing_more k (X id) h = refl
-missing_more k (U id) h = refl
+missing_more k e h = grind arith
 
 expired_more : (k : ℕ) (l : ReportLine) → Fits k l → expired (k + 1) ≡ expired k + cond (is_expired l) 1 0
-expired_more k (J c q) h = omega (arith, h.0, h.1)
-expired_more k (M id) h = absurd h
-expired_more k (X id) h = omega (arith, h)
-expired_more k (U id) h = omega (arith, h)
+expired_more k e h = grind arith
 
 unmatched_more : (k : ℕ) (l : ReportLine) → Fits k l → unmatched (k + 1) ≡ unmatched k + cond (is_unmatched l) 1 0
-unmatched_more k (J c q) h = omega (arith, h.0, h.1)
-unmatched_more k (M id) h = absurd h
-unmatched_more k (X id) h = omega (arith, h)
-unmatched_more k (U id) h = omega (arith, h)
+unmatched_more k e h = grind arith
 
 module _ (seed n : ℕ) (le : n ≤ 100000) where
   apart : (j k : ℕ) → 0 ≤ j → j < k → k < 0 + n → id_cmp (click_at seed j).id (click_at seed k).id ≡ Equal → ⊥
-  apart j k ge less lt e =
-      let same = click_apart j k (omega arith) (omega arith) (tied_micros (click_at seed j).id (click_at seed k).id e) in
-      absurd (omega arith)
+  apart j k ge less lt e = grind arith
 
   count_is : (test : ReportLine → Bool) (F : ℕ → ℕ) → F 0 ≡ 0 → ((k : ℕ) (l : ReportLine) → Fits k l → F (k + 1) ≡ F k + cond (test l) 1 0) → count_by test (lines seed n) ≡ F n
   count_is test F none more =

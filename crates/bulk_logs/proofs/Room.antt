@@ -9,7 +9,7 @@ use Rattle.event_id.specs.declared.id.EventId.{EventId}
 use Rattle.event_id.specs.EventId.{dot, colon, dotted, spell}
 use Rattle.log_records.specs.Line.{query_line, click_line, space}
 use Rattle.log_records.specs.Log.{line_feed, whole}
-use Rattle.bulk_logs.specs.Bulk.{drawn, query_id, click_id, click_micros, nowhere, told_id, query_made, click_made, query_at, click_at, query_log, click_log}
+use Rattle.bulk_logs.specs.Bulk.{drawn, query_id, click_id, click_micros, told_id, query_made, click_made, query_at, click_at, query_log, click_log}
 use Rattle.bulk_logs.proofs.Growing.{grown}
 use Rattle.bulk_logs.proofs.Valid.{drawn_low}
 
@@ -48,8 +48,7 @@ click_id_room : (k one other : ℕ) → k < 2 ^ 32 → length (spell (click_id k
 click_id_room k one other lt = spell_room (click_id k one other) (omega arith) (omega arith) (omega arith) (omega arith) (omega arith) (micros_room k lt)
 
 told_id_room : (k one other : ℕ) → k < 2 ^ 32 → length (spell (told_id k one other)) ≤ 24
-told_id_room k one other lt =
-    cond_both (k % 10 == 9) (nowhere k) (query_id k one other) (λ i. length (spell i) ≤ 24) (λ _. spell_room (nowhere k) (omega arith) (omega arith) (omega arith) (omega arith) (omega arith) (omega arith)) (λ _. query_id_room k one other lt)
+told_id_room k one other lt = grind (arith, spell_room)
 
 query_line_room : (k one other : ℕ) → k < 2 ^ 32 → one < 2 ^ 31 → length (query_line (query_made k one other)) ≤ 36
 query_line_room k one other lt low =

@@ -24,9 +24,7 @@ module _ {R : Type 0} (at : ℕ → R) where
   each_made P a (suc n) h = (h a (omega arith) (omega arith), each_made P (a + 1) n (λ k ge lt. h k (omega arith) (omega arith)))
 
   place_of : (n : ℕ) (r : R) → Contains (map at (range_with_len 0 n)) r → (k : ℕ) × (k < n) × (at k ≡ r)
-  place_of n r (k, lt, e) =
-      let within : k < n = omega (arith, length-map-range_with_len at 0 n) in
-      (k, within, sym (get_or-map-range_with_len at 0 n k k r within (omega arith)) ∙ e)
+  place_of n r h = grind (arith, length-map-range_with_len, get_or-map-range_with_len)
 
   one_made : (id_of : R → EventId) (n : ℕ) → ((j k : ℕ) → j < n → k < n → id_of (at j) ≡ id_of (at k) → j ≡ k) → (r s : R) → Contains (map at (range_with_len 0 n)) r → Contains (map at (range_with_len 0 n)) s → id_of r ≡ id_of s → r ≡ s
   one_made id_of n apart r s a b e =
@@ -85,10 +83,7 @@ click_good k one other lt low = record {
 
 -- no old click has a timestamp that a young one has
 pub click_apart : (j k : ℕ) → j < 100000 → k < 100000 → click_micros j ≡ click_micros k → j ≡ k
-click_apart j k a b =
-    cond_both (j % 10 == 4) (500000 + j) (2000000 + 10 * j) (λ m. m ≡ click_micros k → j ≡ k)
-    (λ _. cond_both (k % 10 == 4) (500000 + k) (2000000 + 10 * k) (λ m. 500000 + j ≡ m → j ≡ k) (λ _ e. omega arith) (λ _ e. omega arith))
-    (λ _. cond_both (k % 10 == 4) (500000 + k) (2000000 + 10 * k) (λ m. 2000000 + 10 * j ≡ m → j ≡ k) (λ _ e. omega arith) (λ _ e. omega arith))
+click_apart j k a b = grind arith
 
 pub queries_hold : (seed n : ℕ) → n ≤ 100000 → HoldsQueries (query_log seed n) (queries seed n)
 queries_hold seed n le =

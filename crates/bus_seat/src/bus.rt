@@ -1,13 +1,12 @@
 //! The turn lock.
-ghost use Rattle.std.specs.Prelude.{◌≡◌, ◌≢◌, ℕ, ◌+◌, ◌<◌, ◌≤◌, ◌^◌, ◌↔◌, ◌⊎◌, [], ◌∷◌, ◌++◌, length, true, false, IfOk, OnErr, MatchBool, IsTrue, MatchOption, IfSome, IsSome, Some, None, vec_len, vec_capacity};
+ghost use Rattle.std.specs.Prelude.{◌≡◌, ◌≢◌, ℕ, ◌+◌, ◌<◌, ◌≤◌, ◌^◌, ◌↔◌, ◌⊎◌, [], ◌∷◌, ◌++◌, length, true, false, IfOk, OnErr, MatchBool, IsTrue, MatchOption, IfSome, IsSome, Some, None, vec_capacity};
 ghost use Rattle.std.specs.List.{All};
-ghost use mathlib.Core.List.{IsPrefix};
 ghost use Rattle.air_bus.specs.declared.entry.Entry.TheVariants.{Begin, End, Stop};
 ghost use Rattle.air_bus.specs.declared.entry.Phase.TheVariants.{Busy};
 ghost use Rattle.air_bus.specs.declared.entry.Entry.{Entry};
-ghost use Rattle.air_bus.specs.History.{Flight, node_of, phase, next_input, IsQuiet, IsAired};
+ghost use Rattle.air_bus.specs.History.{phase, next_input, IsQuiet, IsAired};
 ghost use Rattle.air_bus.specs.Waiting.{is_dead};
-ghost use Rattle.bus_seat.specs.Views.{count, flown, made_by, holding, Took, in_hand, caught_up, off, runner_at, Grew};
+ghost use Rattle.bus_seat.specs.Views.{count, flown, made_by, Took, in_hand, caught_up, off, runner_at, Grew};
 ghost use Rattle.bus_seat.specs.Seats.{bus_id, fresh, fresh_seats, Sight, gathered, TakesPart, AreSeatsOf, IsIn, Adds, Begins, Looks, next_for};
 
 use super::order::{Add, Deal, Gather, Give, Order, Take, Wait as Waiting};

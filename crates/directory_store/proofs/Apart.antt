@@ -65,42 +65,13 @@ kind (Replica number) = Replica 0
 kind (Epoch site joiner) = Epoch 0 0
 kind (Output site joiner) = Output 0 0
 
-abbrev site_of : DiskName → ℕ
-site_of Topology = 0
-site_of (Offset site) = site
-site_of (Retry site) = site
-site_of (Server site) = site
-site_of (Replica number) = 0
-site_of (Epoch site joiner) = site
-site_of (Output site joiner) = site
+both : (F : ℕ → ℕ → DiskName) (s j s' j' : ℕ) → s < 2 ^ 8 → j < 2 ^ 8 → s' < 2 ^ 8 → j' < 2 ^ 8 → site_text s ++ decimal j ≡ site_text s' ++ decimal j' → F s j ≡ F s' j'
+both h s j s' j' ls lj ls' lj' e = grind (arith, same_site, same_number)
 
-abbrev number_of : DiskName → ℕ
-number_of Topology = 0
-number_of (Offset site) = 0
-number_of (Retry site) = 0
-number_of (Server site) = 0
-number_of (Replica number) = number
-number_of (Epoch site joiner) = joiner
-number_of (Output site joiner) = joiner
-
--- of this kind, with these numbers
-abbrev built : DiskName → ℕ → ℕ → DiskName
-built Topology s j = Topology
-built (Offset site) s j = Offset s
-built (Retry site) s j = Retry s
-built (Server site) s j = Server s
-built (Replica number) s j = Replica j
-built (Epoch site joiner) s j = Epoch s j
-built (Output site joiner) s j = Output s j
-
-rebuilt : (d : DiskName) → built (kind d) (site_of d) (number_of d) ≡ d
-rebuilt h = grind arith
-
-site_is_byte : (d : DiskName) → IsOfBytes d → site_of d < 2 ^ 8
-site_is_byte k h = grind arith
-
-number_is_byte : (d : DiskName) → IsOfBytes d → number_of d < 2 ^ 8
-number_is_byte k h = grind arith
+one_kind : (a b : DiskName) → kind a ≡ kind b → IsOfBytes a → IsOfBytes b → numbers a ≡ numbers b → a ≡ b
+one_kind (Epoch s j) (Epoch t i) k h h' e = both (λ x y. Epoch x y) s j t i h.0 h.1 h'.0 h'.1 e
+one_kind (Output s j) (Output t i) k h h' e = both (λ x y. Output x y) s j t i h.0 h.1 h'.0 h'.1 e
+one_kind _ _ k h h' e = grind (arith, one_site, same_number)
 
 -- ---- what the text tells
 
@@ -114,22 +85,8 @@ tells_kind h = grind arith
 tells_numbers : (d : DiskName) → drop (length (word (kind d))) (name_text d) ≡ numbers d
 tells_numbers h = grind arith
 
-both : (F : ℕ → ℕ → DiskName) (s j s' j' : ℕ) → s < 2 ^ 8 → j < 2 ^ 8 → s' < 2 ^ 8 → j' < 2 ^ 8 → site_text s ++ decimal j ≡ site_text s' ++ decimal j' → F s j ≡ F s' j'
-both h s j s' j' ls lj ls' lj' e = grind (arith, same_site, same_number)
-
-same_numbers : (k : DiskName) (s j s' j' : ℕ) → s < 2 ^ 8 → j < 2 ^ 8 → s' < 2 ^ 8 → j' < 2 ^ 8 → numbers (built k s j) ≡ numbers (built k s' j') → built k s j ≡ built k s' j'
-same_numbers Topology s j s' j' ls lj ls' lj' e = refl
-same_numbers (Offset site) s j s' j' ls lj ls' lj' e = ap (λ x. Offset x) (one_site s s' ls ls' e)
-same_numbers (Retry site) s j s' j' ls lj ls' lj' e = ap (λ x. Retry x) (one_site s s' ls ls' e)
-same_numbers (Server site) s j s' j' ls lj ls' lj' e = ap (λ x. Server x) (one_site s s' ls ls' e)
-same_numbers (Replica number) s j s' j' ls lj ls' lj' e = ap (λ x. Replica x) (same_number j j' lj lj' e)
-same_numbers (Epoch site joiner) s j s' j' ls lj ls' lj' e = both (λ x y. Epoch x y) s j s' j' ls lj ls' lj' e
-same_numbers (Output site joiner) s j s' j' ls lj ls' lj' e = both (λ x y. Output x y) s j s' j' ls lj ls' lj' e
-
 pub names_apart : (a b : DiskName) → IsOfBytes a → IsOfBytes b → name_text a ≡ name_text b → a ≡ b
 names_apart a b ha hb e =
     let kinds : kind a ≡ kind b = sym (tells_kind a) ∙ ap (λ t. kind_by (get_or t 0 0) (get_or t 2 0)) e ∙ tells_kind b in
     let told : numbers a ≡ numbers b = sym (tells_numbers a) ∙ ap (λ t. drop (length (word (kind a))) t) e ∙ ap (λ k. drop (length (word k)) (name_text b)) kinds ∙ tells_numbers b in
-    let there : numbers (built (kind a) (site_of b) (number_of b)) ≡ numbers b = ap (λ k. numbers (built k (site_of b) (number_of b))) kinds ∙ ap numbers (rebuilt b) in
-    let same = same_numbers (kind a) (site_of a) (number_of a) (site_of b) (number_of b) (site_is_byte a ha) (number_is_byte a ha) (site_is_byte b hb) (number_is_byte b hb) (ap numbers (rebuilt a) ∙ told ∙ sym there) in
-    sym (rebuilt a) ∙ same ∙ ap (λ k. built k (site_of b) (number_of b)) kinds ∙ rebuilt b
+    one_kind a b kinds ha hb told

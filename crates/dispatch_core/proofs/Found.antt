@@ -1,6 +1,6 @@
 -- What a search in the window finds, and what the leading done lines are.
-use Rattle.std.proofs.Common.{◌≡◌, ◌≢◌, ⊎_elim, ℕ, suc, zero, ◌+◌, ◌<◌, ◌≤◌, Bool, true, false, not, ◌&&◌, ◌||◌, ◌==◌, List, [], ◌∷◌, map, length, get_or, set, drop, Result, Ok, Err, refl, sym, ap, ◌∙◌, arith}
-use Rattle.dispatch_core.proofs.Words.{IsPartitionPoint, IsBinarySearchResult, nat_cmp, ordering_index, Ordering, Less, Equal, Greater, ranked, eq-eqb, ne_eqb, cond-true, cond-false, cases_lt, FreshLine, first_done, after_done, waits, mark, mark_one, fresh_of, IsRisingFrom, Lacks, IsFound}
+use Rattle.std.proofs.Common.{◌≡◌, ◌≢◌, ℕ, suc, zero, ◌+◌, ◌<◌, ◌≤◌, Bool, true, false, not, ◌&&◌, ◌||◌, List, [], ◌∷◌, map, length, get_or, set, drop, Result, Ok, Err, refl, sym, ap, ◌∙◌, arith}
+use Rattle.dispatch_core.proofs.Words.{IsPartitionPoint, IsBinarySearchResult, nat_cmp, ordering_index, Ordering, Less, Equal, Greater, ranked, ne_eqb, cond-true, FreshLine, first_done, after_done, waits, mark, fresh_of, IsRisingFrom, Lacks, IsFound}
 
 -- ---- order
 
@@ -17,13 +17,7 @@ rises a (x ∷ xs) (suc i) zero d h le lt = absurd (omega (arith, le))
 rises a (x ∷ xs) (suc i) (suc j) d h le lt = rises (x.position + 1) xs i j d h.1 (omega (arith, le)) (omega (arith, lt))
 
 index_rises : (a b p : ℕ) → a ≤ b → (r s : Ordering) → r ≡ nat_cmp a p → s ≡ nat_cmp b p → ordering_index r ≤ ordering_index s
-index_rises a b p le Less s e f = omega arith
-index_rises a b p le Equal Less e f = absurd (omega (arith, ranked a p Equal e, ranked b p Less f))
-index_rises a b p le Equal Equal e f = omega arith
-index_rises a b p le Equal Greater e f = omega arith
-index_rises a b p le Greater Less e f = absurd (omega (arith, ranked a p Greater e, ranked b p Less f))
-index_rises a b p le Greater Equal e f = absurd (omega (arith, ranked a p Greater e, ranked b p Equal f))
-index_rises a b p le Greater Greater e f = omega arith
+index_rises a b p le h s e f = grind arith
 
 -- ---- a search
 
@@ -33,11 +27,7 @@ lacks_all (x ∷ xs) p h = (ne_eqb x.position p (h zero x (omega arith)), lacks_
 
 apart_from : (xs : List FreshLine) (p i : ℕ) → IsPartitionPoint (λ (y : FreshLine). nat_cmp y.position p ≡ Less) (λ (y : FreshLine). nat_cmp y.position p ≡ Greater) xs i
     → (k : ℕ) (d : FreshLine) → k < length xs → (get_or xs k d).position ≢ p
-apart_from xs p i parts k d lt e =
-    ⊎_elim
-    (λ (below : k < i). absurd (omega (arith, e, ranked (get_or xs k d).position p Less (sym (parts.0 k d (omega arith) below)))))
-    (λ (above : i ≤ k). absurd (omega (arith, e, ranked (get_or xs k d).position p Greater (sym (parts.1 k d above lt)))))
-    (cases_lt k i)
+apart_from xs p i parts k d lt e = grind arith
 
 pub found : (xs : List FreshLine) (p : ℕ) (r : Result ℕ ℕ) → ((i : ℕ) → r ≡ Ok i → i < length xs) → IsBinarySearchResult (λ (y : FreshLine). nat_cmp y.position p) xs r → IsFound xs p r
 found xs p (Ok i) range h = (range i refl, λ d. ranked (get_or xs i d).position p Equal (sym (h d)))
@@ -52,41 +42,25 @@ lacks_waits (x ∷ xs) p h = ap (λ (b : Bool). (b && not x.done) || waits (map 
 
 pub lacks_mark : (xs : List FreshLine) (p : ℕ) → Lacks xs p → mark (map fresh_of xs) p ≡ map fresh_of xs
 lacks_mark [] p h = refl
-lacks_mark (x ∷ xs) p h =
-    let one : mark_one p (fresh_of x) ≡ fresh_of x = cond-false (x.position == p) (record (fresh_of x) { done = true }) (fresh_of x) h.0 in
-    let rest = lacks_mark xs p h.1 in
-    λ i. one i ∷ rest i
+lacks_mark (x ∷ xs) p h = grind (arith, lacks_mark xs p h.1)
 
 lacks_above : (a p : ℕ) (xs : List FreshLine) → p < a → IsRisingFrom a (map fresh_of xs) → Lacks xs p
 lacks_above a p [] lt h = tt
 lacks_above a p (x ∷ xs) lt h = (ne_eqb x.position p (λ e. absurd (omega (arith, e, h.0))), lacks_above (x.position + 1) p xs (omega (arith, h.0)) h.1)
 
 or_false : (b : Bool) → (b || false) ≡ b
-or_false true = refl
-or_false false = refl
+or_false h = grind arith
 
 pub waits_at : (a p : ℕ) (xs : List FreshLine) (i : ℕ) (d : FreshLine) → IsRisingFrom a (map fresh_of xs) → i < length xs → (get_or xs i d).position ≡ p → waits (map fresh_of xs) p ≡ not (get_or xs i d).done
 waits_at a p [] i d h lt e = absurd (omega (arith, lt))
-waits_at a p (x ∷ xs) zero d h lt e =
-    (λ i. (eq-eqb x.position p e i && not x.done) || lacks_waits xs p (lacks_above (x.position + 1) p xs (omega (arith, e)) h.1) i) ∙ or_false (not x.done)
-waits_at a p (x ∷ xs) (suc i) d h lt e =
-    let more : x.position + 1 ≤ p = omega (arith, e, least (x.position + 1) xs i d h.1 (omega (arith, lt))) in
-    let other : (x.position == p) ≡ false = ne_eqb x.position p (λ s. absurd (omega (arith, s, more))) in
-    ap (λ (b : Bool). (b && not x.done) || waits (map fresh_of xs) p) other ∙ waits_at (x.position + 1) p xs i d h.1 (omega (arith, lt)) e
+waits_at a p (x ∷ xs) zero d h lt e = grind (arith, lacks_waits, lacks_above)
+waits_at a p (x ∷ xs) (suc i) d h lt e = grind (arith, least, waits_at (x.position + 1) p xs i d h.1 (omega (arith, lt)) e)
 
 pub mark_at : (a p : ℕ) (xs : List FreshLine) (i : ℕ) (d y : FreshLine) → IsRisingFrom a (map fresh_of xs) → i < length xs → (get_or xs i d).position ≡ p → fresh_of y ≡ record (fresh_of (get_or xs i d)) { done = true }
     → map fresh_of (set xs i y) ≡ mark (map fresh_of xs) p
 mark_at a p [] i d y h lt e f = absurd (omega (arith, lt))
-mark_at a p (x ∷ xs) zero d y h lt e f =
-    let one : mark_one p (fresh_of x) ≡ record (fresh_of x) { done = true } = cond-true (x.position == p) (record (fresh_of x) { done = true }) (fresh_of x) (eq-eqb x.position p e) in
-    let rest = lacks_mark xs p (lacks_above (x.position + 1) p xs (omega (arith, e)) h.1) in
-    λ j. (f ∙ sym one) j ∷ sym rest j
-mark_at a p (x ∷ xs) (suc i) d y h lt e f =
-    let more : x.position + 1 ≤ p = omega (arith, e, least (x.position + 1) xs i d h.1 (omega (arith, lt))) in
-    let other : (x.position == p) ≡ false = ne_eqb x.position p (λ s. absurd (omega (arith, s, more))) in
-    let one : mark_one p (fresh_of x) ≡ fresh_of x = cond-false (x.position == p) (record (fresh_of x) { done = true }) (fresh_of x) other in
-    let rest = mark_at (x.position + 1) p xs i d y h.1 (omega (arith, lt)) e f in
-    λ j. sym one j ∷ rest j
+mark_at a p (x ∷ xs) zero d y h lt e f = grind (arith, lacks_mark, lacks_above)
+mark_at a p (x ∷ xs) (suc i) d y h lt e f = grind (arith, least, mark_at (x.position + 1) p xs i d y h.1 (omega (arith, lt)) e f)
 
 -- ---- the leading done lines
 

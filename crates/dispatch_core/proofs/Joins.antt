@@ -1,6 +1,6 @@
 -- Joins that are dealt to the joiners of a site.
-use Rattle.std.proofs.Common.{◌≡◌, ℕ, zero, suc, ◌+◌, ◌*◌, ◌%◌, ◌<◌, ◌≤◌, Bool, true, false, cond, nat_lt, List, [], ◌∷◌, ◌++◌, map, Option, Some, None, refl, sym, ap, ◌∙◌, subst, arith}
-use Rattle.dispatch_core.proofs.Words.{zip, option_map, lt-ltb, le-ltb, cond-true, cond-false, append_assoc, append-nil, map-append, Click, ClickLine, at, Packet, Join, Node, To, AnyJoiner, Setting, Config, IsTo, Addressed, DispatcherKept, DispatcherLive, Fresh, join, fresh_joins, trying_joins, join_if, fresh_of, joiner_at, dealt, next_after, GoInTurn, Puts, waiting_joins, AreClicksAt, FreshLine, Outbox}
+use Rattle.std.proofs.Common.{◌≡◌, ℕ, zero, suc, ◌+◌, ◌%◌, ◌<◌, List, [], ◌∷◌, ◌++◌, map, refl, sym, ap, ◌∙◌, subst, arith}
+use Rattle.dispatch_core.proofs.Words.{zip, append_assoc, append-nil, map-append, Click, Packet, Join, Node, To, AnyJoiner, Setting, Config, IsTo, Addressed, DispatcherKept, DispatcherLive, Fresh, join, fresh_joins, trying_joins, fresh_of, joiner_at, dealt, next_after, GoInTurn, Puts, waiting_joins, AreClicksAt, FreshLine, Outbox}
 
 -- ---- one list behind another
 
@@ -29,11 +29,7 @@ puts_more a b c xs ys p q =
     }
 
 pub waiting_more : (x : FreshLine) (xs : List FreshLine) → waiting_joins (x ∷ []) ++ waiting_joins xs ≡ waiting_joins (x ∷ xs)
-waiting_more x xs = go x.done
-  where
-    go : (b : Bool) → cond b [] ((x.position, x.click) ∷ []) ++ waiting_joins xs ≡ cond b (waiting_joins xs) ((x.position, x.click) ∷ waiting_joins xs)
-    go true = refl
-    go false = refl
+waiting_more x xs = grind arith
 
 -- ---- to whom they go
 
@@ -41,16 +37,8 @@ abbrev pub joined : ℕ → ℕ × Click → To × Packet
 joined site j = join site j.0 j.1
 
 to_site : (g : Setting) (site k : ℕ) → site < 2 → k < g.config.joiners → IsTo g (AnyJoiner site) (joiner_at site g.config k)
-to_site g zero k two below =
-    let number : ℕ = (4 + g.config.replicas) + 0 * g.config.joiners + k in
-    let middle : ℕ = (4 + g.config.replicas) + g.config.joiners in
-    let front : number < middle = omega arith in
-    ((omega arith, omega arith), cond-true (nat_lt number middle) 0 1 (lt-ltb number middle front))
-to_site g (suc zero) k two below =
-    let number : ℕ = (4 + g.config.replicas) + 1 * g.config.joiners + k in
-    let middle : ℕ = (4 + g.config.replicas) + g.config.joiners in
-    let behind : middle ≤ number = omega arith in
-    ((omega arith, omega arith), cond-false (nat_lt number middle) 0 1 (le-ltb number middle behind))
+to_site g zero k two below = grind arith
+to_site g (suc zero) k two below = grind arith
 to_site g (suc (suc s)) k two below = absurd (omega (arith, two))
 
 pub addressed : (g : Setting) (site : ℕ) (c : Config) (k : ℕ) → g.config ≡ c → site < 2 → k < c.joiners → ((m : ℕ) → m % c.joiners < c.joiners) → (js : List (ℕ × Click)) → Addressed g (map (joined site) js) (dealt site c k js)
@@ -62,25 +50,13 @@ addressed g site c k is two below wraps (j ∷ js) =
 
 pub waiting_are : (g : Setting) (site : ℕ) (k : DispatcherKept) (l : DispatcherLive) (xs : List FreshLine) → map (joined site) (waiting_joins xs) ≡ fresh_joins g site k l (map fresh_of xs)
 waiting_are g site k l [] = refl
-waiting_are g site k l (x ∷ xs) = go x.done (waiting_are g site k l xs)
-  where
-    go : (b : Bool) → map (joined site) (waiting_joins xs) ≡ fresh_joins g site k l (map fresh_of xs)
-        → map (joined site) (cond b (waiting_joins xs) ((x.position, x.click) ∷ waiting_joins xs)) ≡ cond b (fresh_joins g site k l (map fresh_of xs)) (join site x.position x.click ∷ fresh_joins g site k l (map fresh_of xs))
-    go true h = h
-    go false h = λ i. join site x.position x.click ∷ h i
-
-join_here : (g : Setting) (site : ℕ) (k : DispatcherKept) (l : DispatcherLive) (p : ℕ) (c : Click) (o : Option ClickLine) (rest : List (To × Packet)) → option_map (λ (f : ClickLine). f.click) o ≡ Some c
-    → join site p c ∷ rest ≡ join_if g site k l p o rest
-join_here g site k l p c (Some f) rest h = let same : f.click ≡ c = cc in λ i. join site p (sym same i) ∷ rest
-join_here g site k l p c None rest h = let no : ⊥ = cc in absurd no
+waiting_are g site k l (x ∷ xs) = grind (arith, waiting_are g site k l xs)
 
 pub trying_are : (g : Setting) (site : ℕ) (k : DispatcherKept) (l : DispatcherLive) (ps : List ℕ) (cs : List Click) → AreClicksAt g ps cs → map (joined site) (zip ps cs) ≡ trying_joins g site k l ps
 trying_are g site k l [] [] h = refl
 trying_are g site k l [] (c ∷ cs) h = absurd h
 trying_are g site k l (p ∷ ps) [] h = absurd h
-trying_are g site k l (p ∷ ps) (c ∷ cs) h =
-    let rest = trying_are g site k l ps cs h.1 in
-    (λ i. join site p c ∷ rest i) ∙ join_here g site k l p c (at g.clicks p) (trying_joins g site k l ps) h.0
+trying_are g site k l (p ∷ ps) (c ∷ cs) h = grind (arith, trying_are g site k l ps cs h.1)
 
 pub tick_are : (g : Setting) (site : ℕ) (k : DispatcherKept) (l : DispatcherLive) (xs : List FreshLine) (fs : List Fresh) (ps qs : List ℕ) (cs : List Click) → map fresh_of xs ≡ fs → ps ≡ qs → AreClicksAt g qs cs
     → map (joined site) (waiting_joins xs ++ zip ps cs) ≡ fresh_joins g site k l fs ++ trying_joins g site k l qs

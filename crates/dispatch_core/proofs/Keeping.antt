@@ -1,6 +1,6 @@
 -- What the core stands for once a change is kept.
-use Rattle.std.proofs.Common.{◌≡◌, ℕ, ◌<◌, true, false, ◌==◌, List, [], ◌∷◌, ◌++◌, take, drop, nat_eq, refl, sym, ap, subst, ◌∙◌, arith}
-use Rattle.dispatch_core.proofs.Words.{eq-eqb, or_left, or_right, append-nil, has, without, Distinct, clash, has_push-false, has_without-false, distinct_push, distinct_without, contains, Setting, land, DispatcherKept, DispatcherLive, land_dispatcher, mark, fresh_of, IsRising, AreBefore, note_of, changed, live_of, IsOrdered, Stands, Fits, IsAlike, FreshLine, DispatchCore, Dealer, Change, Advance, Retry, Take}
+use Rattle.std.proofs.Common.{◌≡◌, ℕ, ◌<◌, nat_eq, sym, ap, subst, ◌∙◌, arith}
+use Rattle.dispatch_core.proofs.Words.{or_right, append-nil, has, without, clash, has_push-false, has_without-false, distinct_push, distinct_without, contains, Setting, land, DispatcherKept, DispatcherLive, land_dispatcher, mark, note_of, changed, live_of, IsOrdered, Stands, Fits, IsAlike, FreshLine, DispatchCore, Dealer, Change, Advance, Retry, Take}
 use Rattle.dispatch_core.proofs.Rising.{rising_after_done, before_after_done, rising_push, before_push, rising_mark, before_mark}
 
 -- ---- each change keeps the order
@@ -8,24 +8,11 @@ use Rattle.dispatch_core.proofs.Rising.{rising_after_done, before_after_done, ri
 pub advance_ordered : (e : ℕ) (l : DispatcherLive) → IsOrdered l → IsOrdered (changed (Advance e) l)
 advance_ordered e l o = record { rising = rising_after_done 0 l.fresh o.rising; before = before_after_done l.place l.fresh o.before; due_once = o.due_once; trying_once = o.trying_once; apart = o.apart }
 
-apart_tried : (p : ℕ) (ps ts : List ℕ) → has ps p ≡ false → has ts p ≡ false → ((q : ℕ) → has (p ∷ ps) q ≡ true → has ts q ≡ false) → (q : ℕ) → has ps q ≡ true → has (ts ++ p ∷ []) q ≡ false
-apart_tried p ps ts once new apart q h =
-    has_push-false ts p q (apart q (or_right (p == q) (has ps q) h)) (λ e. clash (has ps q) h (subst (λ (n : ℕ). has ps n ≡ false) e once))
-
-retry_from : (l : DispatcherLive) (due : List ℕ) → l.due ≡ due → IsRising l.fresh → AreBefore l.fresh l.place → Distinct due → Distinct l.trying → ((q : ℕ) → has due q ≡ true → has l.trying q ≡ false)
-    → IsOrdered (record l { due = drop 1 due; trying = l.trying ++ take 1 due })
-retry_from l [] is rising before due_once trying_once apart =
-    record { rising = rising; before = before; due_once = tt; trying_once = subst Distinct (sym (append-nil l.trying)) trying_once; apart = λ q h. absurd (clash false h refl) }
-retry_from l (p ∷ ps) is rising before due_once trying_once apart =
-    let new : has l.trying p ≡ false = apart p (or_left (p == p) (has ps p) (eq-eqb p p refl)) in
-    record { rising = rising; before = before; due_once = due_once.1; trying_once = distinct_push l.trying p trying_once new; apart = apart_tried p ps l.trying due_once.0 new apart }
-
 pub retry_ordered : (l : DispatcherLive) → IsOrdered l → IsOrdered (changed Retry l)
-retry_ordered l o = retry_from l l.due refl o.rising o.before o.due_once o.trying_once o.apart
+retry_ordered l o = grind (arith, append-nil, clash, has, distinct_push, has_push-false, or_right)
 
 pub take_ordered : (f : FreshLine) (l : DispatcherLive) → f.position ≡ l.place → f.position < f.end → IsOrdered l → IsOrdered (changed (Take f) l)
-take_ordered f l here later o =
-    record { rising = rising_push 0 l.fresh (fresh_of f) (omega arith) o.rising (subst (λ (n : ℕ). AreBefore l.fresh n) (sym here) o.before); before = before_push l.fresh (fresh_of f) l.place f.end (omega arith) later o.before; due_once = o.due_once; trying_once = o.trying_once; apart = o.apart }
+take_ordered f l here later o = grind (arith, rising_push, before_push)
 
 pub mark_ordered : (p : ℕ) (l : DispatcherLive) → IsOrdered l → IsOrdered (record l { fresh = mark l.fresh p })
 mark_ordered p l o = record { rising = rising_mark 0 p l.fresh o.rising; before = before_mark p l.place l.fresh o.before; due_once = o.due_once; trying_once = o.trying_once; apart = o.apart }
@@ -53,8 +40,7 @@ alike_stands g old new k l a s = record { of_setting = s.of_setting ∙ ap (λ (
 
 -- only whose turn it is changes
 pub turned : (g : Setting) (old new : DispatchCore) (k : DispatcherKept) (l : DispatcherLive) → new.dealer.config ≡ old.dealer.config → live_of new ≡ live_of old → new.pending ≡ old.pending → Stands g old k l → Stands g new k l
-turned g old new k l config live pending s =
-    record { of_setting = s.of_setting ∙ sym config; live = live ∙ s.live; pending = same_pending g old new k l s pending; ordered = s.ordered }
+turned g old new k l config live pending s = grind arith
 
 -- a change by its case
 pub makes : (g : Setting) (old new : DispatchCore) (k : DispatcherKept) (l : DispatcherLive) (change this : Change) → change ≡ this → (Fits g old k l this → Stands g new (land land_dispatcher (note_of this) k) (changed this l))

@@ -1,6 +1,6 @@
 -- From what the core's parts say to the rows of the turn table.
 use Rattle.std.proofs.Common.{◌≡◌, ℕ, ◌<◌, ◌%◌, Bool, true, false, cond, List, [], ◌∷◌, ◌++◌, map, nat_eq, sym, ap, subst, ◌∙◌, arith}
-use Rattle.dispatch_core.proofs.Words.{list_any, cond-true, cond-false, Click, Packet, Node, has, Each, Setting, Addressed, Out, DispatcherKept, DispatcherLive, waits, fresh_of, IsRising, dealt, next_after, GoInTurn, note_of, changed, Puts, IsJoin, ArePackets, Stands, Fits, IsTurn, Sends, IsDealt, DispatchCore, Turn, FreshLine, Change, Take, Outbox}
+use Rattle.dispatch_core.proofs.Words.{list_any, cond-true, cond-false, Click, has, Each, Setting, Out, DispatcherKept, DispatcherLive, waits, fresh_of, IsRising, note_of, changed, Puts, IsJoin, Stands, Fits, IsTurn, Sends, IsDealt, DispatchCore, Turn, FreshLine, Change, Take, Outbox}
 use Rattle.dispatch_core.proofs.Joins.{joined, addressed, in_turn, next_below}
 use Rattle.dispatch_core.proofs.Sets.{any_has}
 use Rattle.dispatch_core.proofs.Spelled.{dealt_spelled}
@@ -11,21 +11,10 @@ wraps n k below m = let some : 0 < n = omega arith in omega arith
 
 pub row_of : (g : Setting) (core : DispatchCore) (k : DispatcherKept) (l : DispatcherLive) (turn : Turn) (change : Change) (joins : List (ℕ × Click)) (out : Out DispatcherLive) → g.config ≡ core.dealer.config → Sends core turn change joins
     → note_of change ≡ out.note → map (joined core.dealer.site) joins ≡ out.packets → changed change l ≡ out.live → Fits g core k l change → IsTurn g core k l turn out
-row_of g core k l turn change joins out is s note packets live fits = record {
-  note = ap note_of s.change_is ∙ note;
-  packets = subst (λ (ps : List (Node × Packet)). Addressed g out.packets ps) (sym s.packets)
-      (subst (λ ts. Addressed g ts (dealt core.dealer.site core.dealer.config core.dealer.next joins)) packets
-      (addressed g core.dealer.site core.dealer.config core.dealer.next is core.dealer.two core.dealer.within (wraps core.dealer.config.joiners core.dealer.next core.dealer.within) joins));
-  live = ap (λ (c : Change). changed c l) s.change_is ∙ live;
-  fits = subst (λ (c : Change). Fits g core k l c) (sym s.change_is) fits;
-}
+row_of g core k l turn change joins out is s note packets live fits = grind (arith, addressed)
 
 pub dealt_of : (core : DispatchCore) (turn : Turn) (change : Change) (joins : List (ℕ × Click)) → Sends core turn change joins → IsDealt core core.dealer.next turn
-dealt_of core turn change joins s = record {
-  in_turn = subst (λ (ps : List (Node × Packet)). GoInTurn core.dealer.site core.dealer.config core.dealer.next ps turn.next) (sym s.packets) (in_turn core.dealer.site core.dealer.config core.dealer.next turn.next joins s.next);
-  below = subst (λ (n : ℕ). n < core.dealer.config.joiners) (sym s.next) (next_below core.dealer.config.joiners core.dealer.next joins core.dealer.within (wraps core.dealer.config.joiners core.dealer.next core.dealer.within));
-  spelled = subst (λ (ps : List (Node × Packet)). ArePackets ps) (sym s.packets) (dealt_spelled core.dealer.site core.dealer.config core.dealer.next joins s.spelled);
-}
+dealt_of core turn change joins s = grind (arith, in_turn, next_below, dealt_spelled)
 
 pub as_out : (g : Setting) (core : DispatchCore) (k : DispatcherKept) (l : DispatcherLive) (turn : Turn) (out other : Out DispatcherLive) → other ≡ out → IsTurn g core k l turn out → IsTurn g core k l turn other
 as_out g core k l turn out other e t = subst (λ (o : Out DispatcherLive). IsTurn g core k l turn o) (sym e) t
@@ -40,12 +29,7 @@ third b c x y z h i = cond-false b x (cond c y z) h ∙ cond-false c y z i
 
 pub sends_of : (core : DispatchCore) (a d : Outbox) (turn : Turn) (change : Change) (js : List (ℕ × Click)) → a.dealer ≡ core.dealer → a.packets.items ≡ [] → Puts a d js → turn.change ≡ change → turn.packets.items ≡ d.packets.items → turn.next ≡ d.dealer.next
     → Each IsJoin js → Sends core turn change js
-sends_of core a d turn change js same none p is packets next spelled = record {
-  change_is = is;
-  packets = packets ∙ p.packets ∙ (λ i. none i ++ dealt (same i).site (same i).config (same i).next js);
-  next = next ∙ p.next ∙ (λ i. next_after (same i).config.joiners (same i).next js);
-  spelled = spelled;
-}
+sends_of core a d turn change js same none p is packets next spelled = grind arith
 
 -- the sides of a row, at the state that a core holds
 pub waits_as : (g : Setting) (core : DispatchCore) (k : DispatcherKept) (l : DispatcherLive) (p : ℕ) (b : Bool) → Stands g core k l → (IsRising (map fresh_of core.fresh.items) → b ≡ waits (map fresh_of core.fresh.items) p) → waits l.fresh p ≡ b

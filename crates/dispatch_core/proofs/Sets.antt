@@ -1,6 +1,6 @@
 -- Sets of positions, and lists of them.
-use Rattle.std.proofs.Common.{◌≡◌, ℕ, Bool, true, false, cond, ◌||◌, ◌==◌, nat_eq, List, [], ◌∷◌, ◌++◌, take, refl, sym, ap, subst, ◌∙◌}
-use Rattle.dispatch_core.proofs.Words.{list_any, remove_key, nat_eq_equiv, eqb-true, eqb-false, eq-eqb, or_parts, or_left, cond-false, insert_key, has, without, Distinct, has_push, has_without, has_without-false, has_without-self}
+use Rattle.std.proofs.Common.{◌≡◌, ℕ, Bool, true, false, cond, ◌||◌, nat_eq, List, [], ◌∷◌, ◌++◌, take, refl, sym, subst, ◌∙◌, arith}
+use Rattle.dispatch_core.proofs.Words.{list_any, remove_key, nat_eq_equiv, eqb-true, eqb-false, insert_key, has, without, Distinct, has_push, has_without, has_without-false, has_without-self}
 
 pub any_has : (xs : List ℕ) (p : ℕ) → list_any (nat_eq p) xs ≡ has xs p
 any_has [] p = refl
@@ -8,34 +8,22 @@ any_has (x ∷ xs) p = λ i. nat_eq_equiv.symm p x i || any_has xs p i
 
 pub without_absent : (xs : List ℕ) (p : ℕ) → has xs p ≡ false → without xs p ≡ xs
 without_absent [] p h = refl
-without_absent (x ∷ xs) p h =
-    let parts = or_parts (x == p) (has xs p) h in
-    let rest = without_absent xs p parts.1 in
-    cond-false (x == p) (without xs p) (x ∷ without xs p) parts.0 ∙ (λ i. x ∷ rest i)
+without_absent (x ∷ xs) p h = grind (arith, without_absent xs p)
 
 pub removed : (xs : List ℕ) (p : ℕ) → Distinct xs → remove_key (nat_eq p) xs ≡ without xs p
 removed [] p d = refl
-removed (x ∷ xs) p d =
-    subst (λ (t : Bool). cond t xs (x ∷ remove_key (nat_eq p) xs) ≡ cond (x == p) (without xs p) (x ∷ without xs p)) (nat_eq_equiv.symm x p) (go (x == p) refl (removed xs p d.1))
-  where
-    go : (b : Bool) → (x == p) ≡ b → remove_key (nat_eq p) xs ≡ without xs p → cond b xs (x ∷ remove_key (nat_eq p) xs) ≡ cond b (without xs p) (x ∷ without xs p)
-    go true e ih = sym (without_absent xs p (subst (λ (q : ℕ). has xs q ≡ false) (eqb-true x p e) d.0))
-    go false e ih = λ i. x ∷ ih i
+removed (x ∷ xs) p d = grind (arith, without_absent, removed xs p d.1)
 
 -- the first due position goes last in trial
 pub tried : (due rest trying keys : List ℕ) (p : ℕ) → due ≡ p ∷ rest → (has due p ≡ true → has trying p ≡ false) → keys ≡ insert_key nat_eq trying p → keys ≡ trying ++ take 1 due
-tried due rest trying keys p first apart is =
-    let there : has due p ≡ true = ap (λ (xs : List ℕ). has xs p) first ∙ or_left (p == p) (has rest p) (eq-eqb p p refl) in
-    let new : list_any (nat_eq p) trying ≡ false = any_has trying p ∙ apart there in
-    is ∙ cond-false (list_any (nat_eq p) trying) trying (trying ++ p ∷ []) new ∙ ap (λ (xs : List ℕ). trying ++ take 1 xs) (sym first)
+tried due rest trying keys p first apart is = grind (arith, any_has)
 
 -- one position more, and one less
 pub one_more : (c : Bool) (xs : List ℕ) (p q : ℕ) → c ≡ has xs q → cond (nat_eq p q) true c ≡ has (xs ++ p ∷ []) q
 one_more c xs p q h = go (nat_eq p q) ∙ sym (has_push xs p q)
   where
     or_true : (b : Bool) → true ≡ (b || true)
-    or_true true = refl
-    or_true false = refl
+    or_true h = grind arith
 
     or_false : (b : Bool) → b ≡ (b || false)
     or_false true = refl

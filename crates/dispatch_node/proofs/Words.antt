@@ -7,7 +7,6 @@ pub use Rattle.dispatch_core.specs.Standing.{AreClicksAt, Carries, IsKept, IsLin
 pub use Rattle.dispatch_core.specs.declared.dispatch.DispatchCore.{DispatchCore}
 pub use Rattle.dispatch_core.specs.declared.input.TakenLine.{TakenLine}
 pub use Rattle.dispatch_core.specs.declared.turns.DispatchNote.{DispatchNote}
-pub use Rattle.dispatch_core.specs.declared.turns.DispatchNote.TheVariants.{Advance, Park, Settle}
 pub use Rattle.dispatch_core.specs.declared.turns.Turn.{Turn}
 pub use Rattle.dispatch_node.specs.Follows.{AreInOrder, Follows, IsRowTaken}
 pub use Rattle.dispatch_node.specs.Images.{KeptOn, OnDisks, kept_or, one_of}
@@ -15,7 +14,7 @@ pub use Rattle.dispatch_node.specs.Kept.{Holds, MayKeep, kept_as, landed, takes_
 pub use Rattle.dispatch_node.specs.Node.{DispatcherState, Doubts, IsAsked, IsOpenAt, IsRecorded, IsTakenBy, Knows, Parts, SiteLeads, StandsAt, StandsBy, dispatcher_rows, landed_by}
 pub use Rattle.dispatch_node.specs.Places.{AreKeptPlaces, AreLivePlaces, IsEntry, IsLogOf, IsReadable, StartsAt}
 pub use Rattle.gate_journal.proofs.Growth.{continues_same}
-pub use Rattle.gate_journal.specs.Fold.{Fold, fails_at, folds_to, read_as}
+pub use Rattle.gate_journal.specs.Fold.{Fold, fails_at, folds_to}
 pub use Rattle.gate_journal.specs.Opening.{IsOpened}
 pub use Rattle.gate_journal.specs.declared.reading.JournalFault.{JournalFault}
 pub use Rattle.indexmap.specs.IndexSet.{contains}
@@ -42,7 +41,7 @@ pub use Rattle.site_node.specs.Faults.{IsUndamaged}
 pub use Rattle.site_node.specs.States.{Leads, MayTake, State, closes, row, row_of, written}
 pub use Rattle.site_node.specs.declared.kind.NodeFault.{NodeFault}
 pub use Rattle.std.proofs.Math.Seq.{drop-append_seam}
-pub use Rattle.std.proofs.lemmas.Bool.{and_parts, cond_both, eq-eqb, eqb-true, le-ltb, lt-ltb, not-true, or_cases, or_left, or_right}
+pub use Rattle.std.proofs.lemmas.Bool.{and_parts, cond_both, eq-eqb, eqb-true, not-true, or_cases, or_left, or_right}
 pub use Rattle.std.proofs.lemmas.Cmp.{nat_eq_equiv}
 pub use Rattle.std.proofs.lemmas.List.{take_all, take_more}
 pub use Rattle.std.proofs.lemmas.Result.{IfOk-weaker, on_ok_weaker}
@@ -61,5 +60,4 @@ pub use Rattle.turn_defs.specs.declared.node.Input.{Input}
 pub use Rattle.turn_defs.specs.declared.node.Input.TheVariants.{Deliver, Own, Start, Tick}
 pub use Rattle.turn_defs.specs.declared.node.Node.{Node}
 pub use Rattle.turn_defs.specs.declared.packet.Outcome.{Outcome}
-pub use Rattle.turn_defs.specs.declared.packet.Outcome.TheVariants.{Busy, NoQuery}
 pub use Rattle.turn_defs.specs.declared.packet.Packet.{Packet}

@@ -15,7 +15,7 @@ ghost use Rattle.turn_defs.specs.Dispatcher.{DispatcherKept, DispatcherLive, dis
 ghost use Rattle.dispatch_core.specs.Standing.{HasSameNumbers, IsTurn, StandsAs, out_of};
 ghost use Rattle.dispatch_node.specs.Kept.{kept_as, takes_or_none};
 ghost use Rattle.dispatch_node.specs.Places.{AreKeptPlaces, IsLogOf};
-ghost use Rattle.dispatch_node.specs.Node.{IsAsked, IsReady, IsRecorded, IsRoomFor, IsTakenBy, Knows, StandsAt, down_over, landed_by, DispatcherState, SiteLeads, says, never_spent};
+ghost use Rattle.dispatch_node.specs.Node.{IsAsked, IsReady, IsRoomFor, IsTakenBy, Knows, StandsAt, down_over, landed_by, DispatcherState, SiteLeads, says, never_spent};
 ghost use Rattle.site_node.specs.States.{state_phase};
 ghost use Rattle.dispatch_node.specs.Images.{KeptOn, kept_images, one_of};
 ghost use Rattle.dispatch_node.specs.Paths.{begins as begins_by, phase_led};

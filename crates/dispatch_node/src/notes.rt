@@ -24,5 +24,5 @@ fn record_bytes_of(note: DispatchNote) -> [u8; 9]
 pub(crate) fn payload_of(alloc: Global, note: DispatchNote) -> Result<Payload, AllocError>
     ensures { IfOk result (λ bytes. bytes ≡ record_of (told note)) }
 {
-    Payload::new(Vec::from_slice(alloc, &record_bytes_of(note))?)
+    Payload::from_slice(alloc, &record_bytes_of(note))
 }

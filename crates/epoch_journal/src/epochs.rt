@@ -18,7 +18,7 @@ ghost use Rattle.gate_journal.specs.Rising as numbers;
 ghost use Rattle.epoch_journal.specs.Epochs.{epoch_record, epochs, next_epoch, KeepsOr, MayCome};
 
 use ballot_core::LAST_EPOCH;
-use gate_journal::{AppendFault, Appends, Record, RecordJournal};
+use gate_journal::{AppendFault, Appends, Origin, Record, RecordJournal};
 use outside::Disk;
 use std::alloc::{AllocError, Global};
 
@@ -102,7 +102,7 @@ impl Record for Epochs {
         Ok(Epochs { epoch: 0 })
     }
 
-    fn take(&mut self, _: Global, payload: &[u8]) -> Result<bool, AllocError> {
+    fn take(&mut self, _: Origin, payload: &[u8]) -> Result<bool, AllocError> {
         match epoch_above(self.epoch, payload) {
             Some(epoch) => {
                 self.epoch = epoch;

@@ -1,11 +1,10 @@
 -- Numbers in decimal.
-use Rattle.std.proofs.Common.{◌≡◌, ◌≢◌, ℕ, ◌^◌, ◌+◌, ◌-◌, ◌*◌, ◌/◌, ◌%◌, ◌<◌, ◌≤◌, ◌++◌, append_assoc, ◌⊎◌, inl, inr, List, [], ◌∷◌, length, get_or, Option, Some, None, Result, Ok, Err, refl, sym, ap, subst, ◌∙◌, arith, rules, decimal}
+use Rattle.std.proofs.Common.{◌≡◌, ◌≢◌, ℕ, ◌^◌, ◌+◌, ◌-◌, ◌*◌, ◌/◌, ◌%◌, ◌<◌, ◌≤◌, ◌++◌, append_assoc, ◌⊎◌, List, [], ◌∷◌, length, get_or, Option, Some, None, Result, Ok, refl, sym, ap, subst, ◌∙◌, arith, rules, decimal}
 use Rattle.std.specs.Result.{MatchResult, result_ok}
 use Rattle.std.specs.Char.{IsAsciiDigit}
 use Rattle.std.specs.Str.Parse.{AllDigits, digits_value, ParsesUnsigned}
 use Rattle.std.proofs.lemmas.Str.Parse.{IsNumeralModel, numerals_by_value, tells_digits, parse_plain, digit_from_value, numerals_by_fold}
 use Rattle.std.proofs.lemmas.Fmt.{digits_decimal, digits_value-decimal, decimal-digits_value, decimal_nonempty, first_decimal, decimal_digit, decimal_step, decimal_injective}
-use Rattle.std.proofs.lemmas.Bool.{cases_lt}
 use Rattle.std.proofs.lemmas.Result.{OkIff-at_ok}
 use Rattle.list_words.specs.Bytes.{Lacks}
 use Rattle.event_id.specs.Numeral.{HasPlainFront, BeginsWithNoDigit}
@@ -15,9 +14,7 @@ own = numerals_by_value (AllDigits 10) tells_digits
 
 digits_lack : (byte : ℕ) (ds : List ℕ) → (byte < 48) ⊎ (57 < byte) → AllDigits 10 ds → Lacks byte ds
 digits_lack byte [] out h = tt
-digits_lack byte (d ∷ ds) out h =
-    let range = digit_from_value d h.0 in
-    (elim out as (λ _. d ≢ byte) [ inl low ↦ λ e. omega arith | inr high ↦ λ e. omega arith ], digits_lack byte ds out h.1)
+digits_lack byte (d ∷ ds) out h = grind (arith, digits_lack byte ds out h.1)
 
 -- a number in decimal has no byte that is no digit
 pub decimal_lacks : (byte n : ℕ) → (byte < 48) ⊎ (57 < byte) → n < 2 ^ 64 → Lacks byte (decimal n)
@@ -46,24 +43,17 @@ front_from_first (b ∷ c ∷ bs) h = (λ e. omega arith, λ e. omega arith)
 
 -- a number in decimal has a plain front
 pub decimal_front : (n : ℕ) → n < 2 ^ 64 → HasPlainFront (decimal n)
-decimal_front n h =
-    elim (cases_lt 0 n) [
-      | inl lt ↦ front_from_first (decimal n) (first_decimal n lt h)
-      | inr le ↦ let is : n ≡ 0 = omega arith in subst HasPlainFront (sym (ap decimal is ∙ decimal_digit 0 (omega arith))) (λ e. omega arith)
-    ]
+decimal_front n h = grind (arith, front_from_first, first_decimal, decimal_digit)
 
 -- of what `ok` keeps of a result
 pub ok_keeps : {T E : Type 0} (r : Result T E) (P : T → Type 0) (Q : E → Type 0) (x : T) → MatchResult r P Q → result_ok r ≡ Some x → P x
-ok_keeps (Ok y) P Q x h e = let same : y ≡ x = cc in subst P same h
-ok_keeps (Err d) P Q x h e = absurd cc
+ok_keeps k m q x h e = grind arith
 
 pub ok_loses : {T E : Type 0} (r : Result T E) (P : T → Type 0) (Q : E → Type 0) → MatchResult r P Q → result_ok r ≡ None → (d : E) × Q d
-ok_loses (Ok y) P Q h e = absurd cc
-ok_loses (Err d) P Q h e = (d, h)
+ok_loses k m q h e = grind arith
 
 pub ok_kept : {T E : Type 0} (r : Result T E) (x : T) → result_ok r ≡ Some x → r ≡ Ok x
-ok_kept (Ok y) x e = let same : y ≡ x = cc in cc
-ok_kept (Err d) x e = absurd cc
+ok_kept h x e = grind arith
 
 pub none_is_some : {A : Type 0} (x : A) → ◌≡◌ {A = Option A} None (Some x) → ⊥
 none_is_some x e = absurd cc
@@ -89,25 +79,16 @@ digits_end [] (y ∷ ys) [] rest' h k p q e = absurd cc
 digits_end [] (y ∷ ys) (b ∷ rest) rest' h k p q e = let same : b ≡ y = cc in absurd (p (subst IsAsciiDigit (sym same) (digit_from_value y k.0)))
 digits_end (x ∷ xs) [] rest [] h k p q e = absurd cc
 digits_end (x ∷ xs) [] rest (b ∷ rest') h k p q e = let same : b ≡ x = cc in absurd (q (subst IsAsciiDigit (sym same) (digit_from_value x h.0)))
-digits_end (x ∷ xs) (y ∷ ys) rest rest' h k p q e =
-    let first : x ≡ y = cc in
-    let behind : xs ++ rest ≡ ys ++ rest' = cc in
-    let more = digits_end xs ys rest rest' h.1 k.1 p q behind in
-    (cc (more.0), more.1)
+digits_end (x ∷ xs) (y ∷ ys) rest rest' h k p q e = grind (arith, digits_end xs ys rest rest' h.1 k.1 p q)
 
 -- a number that goes on with a digit is no smaller than the digit makes it
 digits_go_on : (n : ℕ) (xs ys : List ℕ) (d : ℕ) (behind rest : List ℕ) → AllDigits 10 xs → AllDigits 10 ys → d < 10 → BeginsWithNoDigit rest → xs ++ (48 + d) ∷ behind ≡ ys ++ rest → 10 * read_on n xs + d ≤ read_on n ys
 digits_go_on n [] [] d behind [] h k digit q e = absurd cc
 digits_go_on n [] [] d behind (b ∷ rest) h k digit q e = let same : 48 + d ≡ b = cc in absurd (q (omega arith, omega arith))
-digits_go_on n [] (y ∷ ys) d behind rest h k digit q e =
-    let first : 48 + d ≡ y = cc in
-    omega (arith, read_on_grows (10 * n + (y - 48)) ys)
+digits_go_on n [] (y ∷ ys) d behind rest h k digit q e = grind (arith, read_on_grows)
 digits_go_on n (x ∷ xs) [] d behind [] h k digit q e = absurd cc
 digits_go_on n (x ∷ xs) [] d behind (b ∷ rest) h k digit q e = let same : b ≡ x = cc in absurd (q (subst IsAsciiDigit (sym same) (digit_from_value x h.0)))
-digits_go_on n (x ∷ xs) (y ∷ ys) d behind rest h k digit q e =
-    let first : x ≡ y = cc in
-    let more : xs ++ (48 + d) ∷ behind ≡ ys ++ rest = cc in
-    rw (← first) (digits_go_on (10 * n + (x - 48)) xs ys d behind rest h.1 k.1 digit q more)
+digits_go_on n (x ∷ xs) (y ∷ ys) d behind rest h k digit q e = grind (arith, digits_go_on (10 * n + (x - 48)) xs ys d behind rest h.1 k.1 digit q)
 
 -- one more digit of the number that a text begins with
 pub number_more : (text text' behind : List ℕ) (n d : ℕ) → 0 < n → d < 10 → n * 10 + d < 2 ^ 64 → text ≡ decimal n ++ text' → text' ≡ (48 + d) ∷ behind → text ≡ decimal (n * 10 + d) ++ behind
@@ -119,16 +100,11 @@ number_more text text' behind n d some digit lt e f =
 
 -- a text begins with one number
 pub number_same : (text rest rest' : List ℕ) (m n : ℕ) → m < 2 ^ 64 → n < 2 ^ 64 → BeginsWithNoDigit rest → BeginsWithNoDigit rest' → text ≡ decimal m ++ rest → text ≡ decimal n ++ rest' → (m ≡ n) × (rest ≡ rest')
-number_same text rest rest' m n lt lt' p q e f =
-    let parts = digits_end (decimal m) (decimal n) rest rest' (digits_decimal own m lt) (digits_decimal own n lt') p q (sym e ∙ f) in
-    (decimal_injective m n lt lt' parts.0, parts.1)
+number_same text rest rest' m n lt lt' p q e f = grind (arith, digits_end, digits_decimal, own, decimal_injective)
 
 -- the number that a text begins with is no smaller than its first digits make it
 pub number_reaches : (text text' behind rest : List ℕ) (m d n : ℕ) → m < 2 ^ 64 → n < 2 ^ 64 → d < 10 → BeginsWithNoDigit rest → text ≡ decimal m ++ text' → text' ≡ (48 + d) ∷ behind → text ≡ decimal n ++ rest → m * 10 + d ≤ n
-number_reaches text text' behind rest m d n lt lt' digit q e f g =
-    let same : decimal m ++ (48 + d) ∷ behind ≡ decimal n ++ rest = rw (← f) (sym e ∙ g) in
-    let more = digits_go_on 0 (decimal m) (decimal n) d behind rest (digits_decimal own m lt) (digits_decimal own n lt') digit q same in
-    omega (arith, more, digits_value-decimal folded m lt, digits_value-decimal folded n lt')
+number_reaches text text' behind rest m d n lt lt' digit q e f g = grind (arith, digits_go_on, digits_decimal, digits_value-decimal, folded)
 
 digits_begin : (ds rest : List ℕ) → AllDigits 10 ds → 0 < length ds → BeginsWithNoDigit (ds ++ rest) → ⊥
 digits_begin [] rest h some ends = omega arith
@@ -148,9 +124,4 @@ zero_first (d ∷ ds) behind rest h e = let same : 48 ≡ d = cc in omega arith
 
 -- a number that begins with a zero is zero
 pub number_zero : (text behind rest : List ℕ) (d n : ℕ) → d ≡ 0 → n < 2 ^ 64 → text ≡ (48 + d) ∷ behind → text ≡ decimal n ++ rest → (0 ≡ n) × (behind ≡ rest)
-number_zero text behind rest d n zero lt e f =
-    let here : 48 ∷ behind ≡ decimal n ++ rest = sym (e ∙ ap (λ k. (48 + k) ∷ behind) zero) ∙ f in
-    elim (cases_lt 0 n) [
-      | inl some ↦ absurd (zero_first (decimal n) behind rest (first_decimal n some lt) here)
-      | inr none ↦ let is : 0 ≡ n = omega arith in let all : 48 ∷ behind ≡ 48 ∷ rest = here ∙ rw (← is, decimal_digit 0 (omega arith)) refl in (is, cc)
-    ]
+number_zero text behind rest d n zero lt e f = grind (arith, zero_first, first_decimal, decimal_digit)

@@ -20,13 +20,7 @@ dotted_lacks byte ip out h =
 -- an address from its four bytes
 pub dotted_of : (a b c d : ℕ) → a < 256 → b < 256 → c < 256 → d < 256 → dotted (from_be_bytes w32 (a ∷ b ∷ c ∷ d ∷ [])) ≡ decimal a ++ dot ∷ (decimal b ++ dot ∷ (decimal c ++ dot ∷ decimal d))
 unfolding dotted
-dotted_of a b c d p q r s =
-    let ip : ℕ = from_be_bytes w32 (a ∷ b ∷ c ∷ d ∷ []) in
-    let first : ip / 2 ^ 24 ≡ a = omega arith in
-    let second : ip / 2 ^ 16 % 256 ≡ b = omega arith in
-    let third : ip / 2 ^ 8 % 256 ≡ c = omega arith in
-    let fourth : ip % 256 ≡ d = omega arith in
-    rw (first, second, third, fourth) refl
+dotted_of a b c d p q r s = grind arith
 
 -- an address has its four bytes
 pub bytes_of : (ip : ℕ) → ip < 2 ^ 32 → from_be_bytes w32 (ip / 2 ^ 24 ∷ ip / 2 ^ 16 % 256 ∷ ip / 2 ^ 8 % 256 ∷ ip % 256 ∷ []) ≡ ip
@@ -110,13 +104,7 @@ spell_parts id k l m n lt p q r s =
 -- ---- laws
 
 pub dotted_same : (ip ip' : ℕ) → ip < 2 ^ 32 → ip' < 2 ^ 32 → dotted ip ≡ dotted ip' → ip ≡ ip'
-dotted_same ip ip' lt lt' e =
-    let lacks : (n : ℕ) → n < 256 → Lacks dot (decimal n) = octet_lacks in
-    let one : (m n : ℕ) → m < 256 → n < 256 → decimal m ≡ decimal n → m ≡ n = λ m n p q r. decimal_injective m n (omega arith) (omega arith) r in
-    let a = split_same dot _ (after_first ip) _ (after_first ip') (lacks (ip / 2 ^ 24) (omega arith)) (lacks (ip' / 2 ^ 24) (omega arith)) (sym (dotted_is ip) ∙ e ∙ dotted_is ip') in
-    let b = split_same dot _ (after_second ip) _ (after_second ip') (lacks (ip / 2 ^ 16 % 256) (omega arith)) (lacks (ip' / 2 ^ 16 % 256) (omega arith)) a.1 in
-    let c = split_same dot _ (after_third ip) _ (after_third ip') (lacks (ip / 2 ^ 8 % 256) (omega arith)) (lacks (ip' / 2 ^ 8 % 256) (omega arith)) b.1 in
-    sym (bytes_of ip lt) ∙ address_of _ _ _ _ ip' lt' (one _ _ (omega arith) (omega arith) a.0) (one _ _ (omega arith) (omega arith) b.0) (one _ _ (omega arith) (omega arith) c.0) (one _ _ (omega arith) (omega arith) c.1)
+dotted_same ip ip' lt lt' e = grind (arith, octet_lacks, decimal_injective, split_same, dotted_is)
 
 pub spell_same : (x y : EventId) → IsId x → IsId y → spell x ≡ spell y → x ≡ y
 spell_same x y p q e =
@@ -144,8 +132,4 @@ length-dotted-le ip h =
     rw dotted_is (omega (arith, length-append (decimal (ip / 2 ^ 24)) (dot ∷ after_first ip), length-append (decimal (ip / 2 ^ 16 % 256)) (dot ∷ after_second ip), length-append (decimal (ip / 2 ^ 8 % 256)) (dot ∷ after_third ip)))
 
 pub length-spell-le : (x : EventId) → IsId x → length (spell x) ≤ 47
-length-spell-le x h =
-    let a = length-dotted-le x.ip h.ip in
-    let p = pid_short x.pid h.pid in
-    let u = micros_short x.micros h.micros in
-    rw spell_is (omega (arith, length-append (dotted x.ip) (colon ∷ after_address x), length-append (decimal x.pid) (colon ∷ decimal x.micros)))
+length-spell-le x h = grind (arith, length-dotted-le, pid_short, micros_short, spell_is, length-append)

@@ -2,7 +2,7 @@
 ghost use Rattle.std.specs.Prelude.{◌≡◌, ◌≤◌, length};
 ghost use Rattle.event_id.specs.declared.id.EventId.{EventId as Id};
 ghost use Rattle.list_words.specs.Bytes.{Lacks};
-ghost use Rattle.event_id.specs.EventId.{spell, packed, id_cmp, IsId};
+ghost use Rattle.event_id.specs.EventId.{spell, id_cmp, IsId};
 
 use crate::EventId;
 

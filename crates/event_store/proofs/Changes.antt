@@ -1,12 +1,9 @@
 -- What one change of a map leaves at each key.
-use Rattle.std.proofs.Common.{◌≡◌, ℕ, Bool, true, false, ◌&&◌, ◌==◌, cond, Option, Some, None, is_some, unwrap_or, ap, ◌∙◌, arith, is_eq}
+use Rattle.std.proofs.Common.{◌≡◌, Bool, true, false, cond, Option, Some, None, is_some, unwrap_or, arith, is_eq}
 use Rattle.event_store.proofs.Words.{nat_tests, Process, Progress, same_key, key_cmp}
 
-eqb_flips : (a b : ℕ) → (a == b) ≡ (b == a)
-eqb_flips a b = grind (arith, nat_tests)
-
 pub key_flips : (p q : Process) → same_key p q ≡ same_key q p
-key_flips p q = ap (λ (t : Bool). t && (p.pid == q.pid)) (eqb_flips p.ip q.ip) ∙ ap (λ (t : Bool). (q.ip == p.ip) && t) (eqb_flips p.pid q.pid)
+key_flips p q = grind (arith, nat_tests)
 
 pub no_value : {A : Type 0} (o : Option A) → is_some o ≡ false → o ≡ None
 no_value o e = grind arith

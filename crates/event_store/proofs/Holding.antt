@@ -26,10 +26,6 @@ held_at_hand {T} log now place at count index kept kept' held same stays more =
 pub held_next : {T : Type 0} (log log' : List ℕ) (place at count n : ℕ) (index index' : Index) (kept kept' : EventId → Option ℕ) → ∥ (T → Holds log place count index kept) ∥₁ → (T → Holds log place count index kept → Holds log' at n index' kept') → ∥ (T → Holds log' at n index' kept') ∥₁
 held_next {T} log log' place at count n index index' kept kept' held f = ∥∥₁_map held (λ (g : T → Holds log place count index kept) (t : T). f t (g t))
 
--- the count of lines fits
-pub count_fits : (log : List ℕ) (place count : ℕ) (index : Index) (kept : EventId → Option ℕ) → Holds log place count index kept → count ≤ place
-count_fits log place count index kept h = let l = walk_beyond log 0 place h.lines h.knows.walk in let n = h.counts in omega (arith, l, n)
-
 -- a fact of the lines read that has no two proofs
 pub held_tells : {T P : Type 0} (log : List ℕ) (place count : ℕ) (index : Index) (kept : EventId → Option ℕ) → IsProp P → ∥ (T → Holds log place count index kept) ∥₁ → T → (lines : List (Option QueryRec)) → AreRead log place lines → ((marks : List Mark) → Knows log place index lines marks → count ≡ length lines → IsCache kept marks → P) → P
 held_tells {T} {P} log place count index kept prop held t lines walk use_it = ∥∥₁_elim held prop (λ (f : T → Holds log place count index kept). at_once (f t))
@@ -66,4 +62,4 @@ end_fits log place e r (line, rest, is, lacks, ends, reads) =
 
 -- the count of one line more
 pub one_more : (log : List ℕ) (place count n : ℕ) (index : Index) (kept : EventId → Option ℕ) → Holds log place (count + 1) index kept → place ≤ MAX_LOG → n ≡ min (count + 1) (2 ^ 64 - 1) → Holds log place n index kept
-one_more log place count n index kept h le is = grind (arith, count_fits)
+one_more log place count n index kept h le is = grind (arith, walk_beyond)

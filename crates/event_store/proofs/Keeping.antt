@@ -1,7 +1,7 @@
 -- The index of one line more.
 use Rattle.std.proofs.Common.{◌≡◌, ℕ, ◌+◌, ◌%◌, ◌==◌, ◌&&◌, Bool, true, false, cond, List, ◌∷◌, Some, None, is_some, OnOk, Result, arith}
 use Rattle.std.specs.BTreeMap as tree
-use Rattle.event_store.proofs.Words.{option_or, EventId, is_same, id_cmp, Process, Progress, Index, is_in_order, strays, Mark, Keeps, ids_of, same_key, key_of, progress, progress_at, entry_of}
+use Rattle.event_store.proofs.Words.{option_or, EventId, is_same, id_cmp, Process, Progress, Index, is_in_order, strays, Mark, Keeps, ids_of, same_key, key_of, progress_at}
 use Rattle.event_store.proofs.Marking.{entry_first, no_first, stray_any}
 use Rattle.event_store.proofs.Counting.{stray_more, ordered_more}
 
@@ -11,11 +11,5 @@ both_ok r a b f = grind arith
 pub stray_kept : (index after : Index) (id : EventId) (place : ℕ) → ((p : Process) → progress_at after.processes p ≡ progress_at index.processes p) → after.entries ≡ index.entries → ((k : EventId) → tree.get id_cmp after.strays k ≡ option_or (tree.get id_cmp index.strays k) (cond (is_same k id) (Some place) None)) → tree.btree_map_len after.strays ≡ tree.btree_map_len index.strays + cond {A = ℕ} (is_some (tree.get id_cmp index.strays id)) 0 1 → (marks : List Mark) → Keeps index marks → is_in_order (ids_of marks) id ≡ false → Keeps after (record { place = place; id = id } ∷ marks)
 stray_kept index after id place moved entries at len marks keeps order = grind (arith, stray_more, stray_any)
 
-moved_on : (ids : List EventId) (id : EventId) (p : Process) → is_in_order ids id ≡ true → cond (same_key p (key_of id)) (record { lines = (progress ids (key_of id)).lines + 1; last = id.micros }) (progress ids p) ≡ progress (id ∷ ids) p
-moved_on ids id p order = grind arith
-
-no_own_entry : (marks : List Mark) (id : EventId) → is_in_order (ids_of marks) id ≡ true → entry_of marks id ≡ None
-no_own_entry marks id order = grind (arith, entry_first, no_first)
-
 pub ordered_kept : (index after : Index) (id : EventId) (place : ℕ) (g : Progress) (starts : Bool) → g ≡ progress_at index.processes (key_of id) → starts ≡ (g.lines % 16 == 0) → ((p : Process) → progress_at after.processes p ≡ cond (same_key p (key_of id)) (record { lines = g.lines + 1; last = id.micros }) (progress_at index.processes p)) → ((k : EventId) → tree.get id_cmp after.entries k ≡ cond (is_same k id && starts) (Some place) (tree.get id_cmp index.entries k)) → (tree.get id_cmp index.entries id ≡ None → tree.btree_map_len after.entries ≡ tree.btree_map_len index.entries + cond {A = ℕ} starts 1 0) → after.strays ≡ index.strays → (marks : List Mark) → Keeps index marks → is_in_order (ids_of marks) id ≡ true → Keeps after (record { place = place; id = id } ∷ marks)
-ordered_kept index after id place g starts is starts_is moved at len strays marks keeps order = grind (arith, moved_on, ordered_more, no_own_entry)
+ordered_kept index after id place g starts is starts_is moved at len strays marks keeps order = grind (arith, ordered_more, entry_first, no_first)

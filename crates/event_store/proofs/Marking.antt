@@ -53,30 +53,12 @@ module _ (k id : EventId) (one : same_process k id ≡ true) where
   -- no line with the id stands before an entry of its process that isn't above it
   pub from_entry : (place : ℕ) (marks : List Mark) (s : ℕ) (f : First) → Falls place marks → k.micros ≤ id.micros → entry_of marks k ≡ Some s → first_of marks id ≡ Some f → s ≤ f.place
   from_entry place [] s f falls le e first = absurd (none-some s e)
-  from_entry place (m ∷ earlier) s f falls le e first = elim (entry_cases m earlier k s e) [
-    | inl h ↦ elim (first_cases m earlier id f first) [
-      | inl g ↦ absurd (let l = above (ids_of earlier) m.id id h.1 (any_first earlier id f g) (subst (λ (i : EventId). same_process i id ≡ true) h.0 one) in let same : k.micros ≡ m.id.micros = ap (λ (i : EventId). i.micros) h.0 in omega (arith, l, same))
-      | inr g ↦ omega (arith, h.2, g.1)
-    ]
-    | inr h ↦ elim (first_cases m earlier id f first) [
-      | inl g ↦ from_entry m.place earlier s f falls.1 le h g
-      | inr g ↦ omega (arith, g.1, entry_below m.place earlier k s falls.1 h)
-    ]
-  ]
+  from_entry place (m ∷ earlier) s f falls le e first = grind (arith, entry_cases, above, any_first, entry_below, from_entry m.place earlier s f falls.1 le)
 
   -- an in-order line with the id stands before an entry of its process that is above it
   pub before_entry : (place : ℕ) (marks : List Mark) (s : ℕ) (f : First) → Falls place marks → id.micros < k.micros → entry_of marks k ≡ Some s → first_of marks id ≡ Some f → f.ordered ≡ true → f.place < s
   before_entry place [] s f falls lt e first order = absurd (none-some s e)
-  before_entry place (m ∷ earlier) s f falls lt e first order = elim (entry_cases m earlier k s e) [
-    | inl h ↦ elim (first_cases m earlier id f first) [
-      | inl g ↦ omega (arith, h.2, first_below m.place earlier id f falls.1 g)
-      | inr g ↦ absurd (let same : k.micros ≡ m.id.micros = ap (λ (i : EventId). i.micros) h.0 in let too : id.micros ≡ m.id.micros = ap (λ (i : EventId). i.micros) g.0 in omega (arith, same, too))
-    ]
-    | inr h ↦ elim (first_cases m earlier id f first) [
-      | inl g ↦ before_entry m.place earlier s f falls.1 lt h g order
-      | inr g ↦ absurd (let l = above (ids_of earlier) m.id k (g.2 ∙ order) (any_entry earlier k s h) (subst (λ (i : EventId). same_process i k ≡ true) g.0 back) in let too : id.micros ≡ m.id.micros = ap (λ (i : EventId). i.micros) g.0 in omega (arith, l, too))
-    ]
-  ]
+  before_entry place (m ∷ earlier) s f falls lt e first order = grind (arith, entry_cases, first_cases, first_below, above, any_entry, before_entry m.place earlier s f falls.1 lt)
 
 -- an entry stays
 entry_more : (m : Mark) (earlier : List Mark) (k : EventId) → (s : ℕ) × (entry_of earlier k ≡ Some s) → (s : ℕ) × (entry_of (m ∷ earlier) k ≡ Some s)

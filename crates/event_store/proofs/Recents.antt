@@ -1,5 +1,5 @@
 -- The places at hand.
-use Rattle.std.proofs.Common.{◌≡◌, ℕ, ◌+◌, Bool, cond, List, [], Option, Some, None, IfSome, Result, Ok, Err, OnOk, OnErr, MatchResult, is_eq, length, refl, sym, ap, ◌∙◌, subst, arith}
+use Rattle.std.proofs.Common.{◌≡◌, ℕ, ◌+◌, Bool, cond, List, [], Option, Some, None, IfSome, Result, Ok, Err, OnOk, OnErr, MatchResult, is_eq, length, sym, ap, ◌∙◌, subst, arith}
 use Rattle.std.proofs.Math.ListN.{get_or}
 use Rattle.std.proofs.lemmas.Cmp.{eq_by_cmp_equiv}
 use Rattle.std.proofs.lemmas.List.{get_or-map}
@@ -21,10 +21,7 @@ Kept = EventId → Option ℕ
 -- one more among the younger
 pub remembered : (was now old : Kept) (own : EventId) (place : ℕ) → ((id : EventId) → now id ≡ cond (is_eq (id_cmp own id)) (Some place) (was id)) → (marks : List Mark) → IsCache (λ id. option_or (was id) (old id)) marks → place_of marks own ≡ Some place
     → IsCache (λ id. option_or (now id) (old id)) marks
-remembered was now old own place put marks cache first = λ id. subst (λ (o : Option ℕ). IfSome (option_or o (old id)) (λ s. place_of marks id ≡ Some s)) (sym (put id)) (go id (is_eq (id_cmp own id)) refl)
-  where
-    go : (id : EventId) (t : Bool) → is_eq (id_cmp own id) ≡ t → IfSome (option_or (cond t (Some place) (was id)) (old id)) (λ s. place_of marks id ≡ Some s)
-    go id t e = grind arith
+remembered was now old own place put marks cache first = grind arith
 
 -- whether or not there was memory for it
 pub either_way : {X E A B P : Type 0} (r : Result X E) → OnOk r A → OnErr r B → (A → P) → (B → P) → P

@@ -25,13 +25,13 @@ pub use Rattle.log_records.specs.declared.records.QueryRec.{QueryRec, QueryRec a
 pub use Rattle.log_records.specs.declared.why.Why.{Why}
 pub use Rattle.std.proofs.Math.Dec.{lit≤}
 pub use Rattle.std.proofs.Props.{props}
-pub use Rattle.std.proofs.lemmas.Bool.{and_from, and_parts, both_ways, cases_eq, cond-true, or_left, or_parts, or_right}
+pub use Rattle.std.proofs.lemmas.Bool.{and_from, both_ways, cases_eq, cond-true, or_left, or_right}
 pub use Rattle.std.proofs.lemmas.Bool.Decides.{Decides-eqb, nat_tests}
 pub use Rattle.std.proofs.lemmas.List.{length-append}
 pub use Rattle.std.proofs.lemmas.List.Elements.{All-from_recursion, filter_map-append}
 pub use Rattle.std.proofs.lemmas.List.Folds.{find-append}
 pub use Rattle.std.proofs.lemmas.List.Sums.{sum_by-cons}
-pub use Rattle.std.proofs.lemmas.Option.{IfSome_then, MatchOption-at_none, MatchOption-at_some, cond_some, none-some, same_Some}
+pub use Rattle.std.proofs.lemmas.Option.{IfSome_then, MatchOption-at_none, MatchOption-at_some, none-some}
 pub use Rattle.std.proofs.lemmas.Result.{IfOk-weaker}
 pub use Rattle.std.proofs.lemmas.Slice.Eq.{starts_is}
 pub use Rattle.std.specs.BTreeMap.{get, is_at}

@@ -1,5 +1,5 @@
 // A sparse index of the lines with a record, which knows no log.
-ghost use Rattle.std.specs.Prelude.{◌≡◌, ◌≤◌, ◌<◌, ◌≢◌, ◌+◌, ◌∷◌, [], ℕ, List, true, false, IsTrue, Option, Some, None, is_some, IfSome, IfNone, OnOk, OnErr, IfOk};
+ghost use Rattle.std.specs.Prelude.{◌≡◌, ◌≤◌, ◌<◌, ◌≢◌, ◌+◌, ◌∷◌, [], ℕ, List, true, false, IsTrue, Option, Some, None, IfSome, IfNone, OnOk, OnErr};
 ghost use Rattle.event_id.specs.declared.id.EventId.{EventId as Id};
 
 use crate::puts::{make_room, put_entry, put_progress, put_stray};
@@ -67,12 +67,11 @@ impl Progress {
 }
 
 impl Index {
-    ghost use Rattle.std.specs.Prelude.{unwrap_or, if◌then◌else◌, ◌&&◌};
-    ghost use Rattle.event_store.specs.declared.index.Process.{Process as Key};
+    ghost use Rattle.std.specs.Prelude.{if◌then◌else◌, ◌&&◌};
     ghost use Rattle.std.specs.BTreeMap as tree;
     ghost use Rattle.event_id.specs.EventId.{id_cmp};
     ghost use Rattle.event_store.specs.Order.{is_in_order, same_process, entries_among};
-    ghost use Rattle.event_store.specs.Marks.{Mark as Seen, Keeps, First, first_of, stray_of, ids_of, progress_at, same_key, key_of, Falls, IsStray, IsSegment};
+    ghost use Rattle.event_store.specs.Marks.{Mark as Seen, Keeps, first_of, stray_of, ids_of, progress_at, key_of, Falls, IsStray, IsSegment};
 
     /// Of no lines. It takes no memory.
     pub(crate) fn new(alloc: Global) -> Index

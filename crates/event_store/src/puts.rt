@@ -1,5 +1,5 @@
 // Changes of an index's maps.
-ghost use Rattle.std.specs.Prelude.{◌≡◌, ◌+◌, ℕ, Option, Some, None, is_some, IsSome, OnOk, OnErr, if◌then◌else◌, ◌&&◌};
+ghost use Rattle.std.specs.Prelude.{◌≡◌, ◌+◌, Option, Some, None, is_some, IsSome, OnOk, OnErr, if◌then◌else◌, ◌&&◌};
 ghost use Rattle.std.specs.Option.{option_or};
 ghost use Rattle.std.specs.BTreeMap as tree;
 ghost use Rattle.event_id.specs.declared.id.EventId.{EventId as Id};

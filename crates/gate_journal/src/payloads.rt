@@ -1,11 +1,13 @@
 // The payloads of a file, in the bytes that were read of it.
-ghost use Rattle.std.specs.Prelude.{◌≡◌, true, false, take, drop, IfSome, IfNone};
+ghost use Rattle.std.specs.Prelude.{◌≡◌, true, false, take, drop, IfOk, IfSome, IfNone};
 ghost use Rattle.gate_journal.specs.Gate.{record_size, is_whole, payloads_in};
 ghost use Rattle.gate_journal.specs.Payloads.{left};
 
 use crate::frame::MAX_PAYLOAD;
 use crate::reading::OPEN;
+use std::alloc::AllocError;
 use std::marker::Model;
+use wire_core::SharedBytes;
 
 /// The payloads of a file's records, in their order. They stay in the bytes that were read, and none is copied. Contracts see
 /// the list of them.
@@ -36,6 +38,13 @@ impl Payloads {
         ensures { left result ≡ self.now }
     {
         Walk { rest: &self.bytes }
+    }
+
+    /// The bytes that they stand in.
+    pub(crate) fn into_shared(self) -> Result<SharedBytes, AllocError>
+        ensures { IfOk result (λ shared. payloads_in shared ≡ self) }
+    {
+        SharedBytes::new(self.bytes)
     }
 }
 

@@ -5,6 +5,7 @@ ghost use Rattle.gate_journal.specs.Gate.{spans};
 ghost use Rattle.gate_journal.specs.Records.{Read};
 
 use std::alloc::{AllocError, Global};
+use wire_core::Origin;
 
 /// A kind of record, as what its records stand for: the value that a journal of it keeps in memory.
 pub trait Record: Drop {
@@ -34,8 +35,8 @@ pub trait Record: Drop {
     fn new(alloc: Global) -> Result<Self, AllocError>
         ensures start { IfOk result (λ value. keeps (kept value) (Ok [])) };
 
-    /// Takes one more payload, and says whether it is a next record.
-    fn take(&mut self, alloc: Global, payload: &[u8]) -> Result<bool, AllocError>
+    /// Takes one more payload of this origin, and says whether it is a next record.
+    fn take(&mut self, origin: Origin, payload: &[u8]) -> Result<bool, AllocError>
         ensures next { IfOk result (λ is. is ≡ true → (ps : List (List ℕ)) → keeps (kept self.old) (Ok ps) → keeps (kept self.new) (Ok (ps ++ payload.now ∷ []))) }
         ensures damage { IfOk result (λ is. is ≡ false → (ps rest : List (List ℕ)) → keeps (kept self.old) (Ok ps) → damaged (Ok (ps ++ payload.now ∷ rest)) (1 + spans ps)) };
 

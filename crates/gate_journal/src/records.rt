@@ -12,9 +12,10 @@ ghost use Rattle.gate_journal.specs.Opening.{IsOpened};
 ghost use Rattle.gate_journal.specs.Growth.{Continues};
 ghost use Rattle.gate_journal.specs.Records.{FailsAt, Keeps, KeepsOr, IsLeft, IsRefused, IsRefusedAgain};
 
-use crate::{AppendFault, Appends, Journal, JournalFault, Payloads, Record};
+use crate::{AppendFault, Appends, Journal, JournalFault, Payloads, Record, Walk};
 use outside::Disk;
 use std::alloc::{AllocError, Global};
+use wire_core::Origin;
 
 /// The records of one kind on a disk, and the value that they keep.
 ///
@@ -46,7 +47,7 @@ impl<D: Disk, R: Record> RecordJournal<D, R> {
         ensures err_count { IfErr result (λ e. D.faults disk ≤ D.faults e.1) }
     {
         match Journal::open(alloc, disk) {
-            Ok((journal, payloads)) => match read_kept(alloc, &payloads) {
+            Ok((journal, payloads)) => match read_kept(alloc, payloads) {
                 Ok(value) => Ok(RecordJournal { journal, value }),
                 Err(fault) => Err((fault, journal.into_disk())),
             },
@@ -91,7 +92,7 @@ impl<D: Disk, R: Record> RecordJournal<D, R> {
         ensures count { D.faults journal.old.disk ≤ D.faults journal.new.disk }
     {
         let payloads = journal.reopen(alloc)?;
-        match read_kept(alloc, &payloads) {
+        match read_kept(alloc, payloads) {
             Ok(value) => Ok(value),
             Err(fault) => {
                 journal.give_up();
@@ -110,7 +111,7 @@ impl<D: Disk, R: Record> RecordJournal<D, R> {
         ensures count { D.faults disk.old ≤ D.faults disk.new }
     {
         let payloads = Journal::read_again(alloc, disk)?;
-        read_kept(alloc, &payloads)
+        read_kept(alloc, payloads)
     }
 
     /// The bare journal, and what its records stand for, which it no longer follows: records are appended to it as
@@ -187,18 +188,22 @@ impl<D: Disk, R: Appends> RecordJournal<D, R> {
 
 // The value that payloads keep, or the place of the first that is no next record.
 #[tactic(auto, using(crate::proofs::Taking::taken))]
-fn read_kept<R: Record>(alloc: Global, payloads: &Payloads) -> Result<R, JournalFault>
-    requires { spans payloads.now ≤ 2 ^ 63 }
-    ensures kept { IfOk result (λ value. R.keeps (R.kept value) (Ok payloads.now)) }
-    ensures err { IfErr result (FailsAt R.damaged payloads.now) }
+fn read_kept<R: Record>(alloc: Global, payloads: Payloads) -> Result<R, JournalFault>
+    requires { spans payloads ≤ 2 ^ 63 }
+    ensures kept { IfOk result (λ value. R.keeps (R.kept value) (Ok payloads)) }
+    ensures err { IfErr result (FailsAt R.damaged payloads) }
 {
+    let shared = payloads.into_shared()?;
     let mut value = R::new(alloc)?;
     let mut place = 1;
-    for payload in payloads.iter() {
-        if !value.take(alloc, payload)? {
+    let rest = shared.as_slice();
+    for payload in (Walk { rest }) {
+        let next = place + (5 + payload.len() as u64);
+        let origin = Origin::within(alloc, &shared, next as usize - 1);
+        if !value.take(origin, payload)? {
             return Err(JournalFault::Damaged { at: place });
         }
-        place += 5 + payload.len() as u64;
+        place = next;
     }
     Ok(value)
 }

@@ -1,5 +1,6 @@
 -- What a turn of the code says of a row.
-use Rattle.std.proofs.Common.{Result, Ok, Err, IfOk, ◌≡◌, ℕ, List, [], ◌∷◌, map, None, option_map, refl, sym, ap, subst, ◌∙◌}
+use Rattle.std.proofs.Common.{arith}
+use Rattle.std.proofs.Common.{Result, IfOk, ◌≡◌, ℕ, List, [], ◌∷◌, map, None, option_map, refl, sym, ap, subst, ◌∙◌}
 use Rattle.turn_defs.specs.declared.packet.Packet.{Packet}
 use Rattle.turn_defs.specs.declared.node.Node.{Node}
 use Rattle.turn_defs.specs.declared.node.Node.TheVariants.{Server}
@@ -39,5 +40,4 @@ by_input {core} {t} g n k l i i' e h = subst (λ (x : Input). Answers core g n k
 
 -- what holds of the value in an Ok gives what else holds of it
 pub if_ok : {T E : Type 0} (r : Result T E) (P Q : T → Type 0) → ((t : T) → P t → Q t) → IfOk r P → IfOk r Q
-if_ok (Ok t) P Q f h = f t h
-if_ok (Err e) P Q f h = tt
+if_ok k e m f h = grind arith

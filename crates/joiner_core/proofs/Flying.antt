@@ -1,5 +1,6 @@
 -- The joins in flight as a list, made of the entries of a map.
-use Rattle.std.proofs.Common.{◌≡◌, ℕ, Bool, true, false, cond, List, [], ◌∷◌, ◌++◌, ◌&&◌, ◌||◌, map, Option, Some, None, option_map, is_some, refl, sym, ap, subst, ◌∙◌}
+use Rattle.std.proofs.Common.{arith}
+use Rattle.std.proofs.Common.{◌≡◌, ℕ, Bool, true, false, cond, List, [], ◌∷◌, ◌++◌, ◌&&◌, map, Option, Some, None, option_map, is_some, refl, sym, ap, subst, ◌∙◌}
 use Rattle.std.specs.List.{AllByRecursion, IsDistinct, find}
 use Rattle.std.specs.Map.{keys_of, lookup}
 use Rattle.indexmap.specs.IndexMap.{shift_remove_entry}
@@ -7,9 +8,9 @@ use Rattle.event_id.specs.declared.id.EventId.{EventId}
 use Rattle.event_id.specs.EventId.{is_same as same_id}
 use Rattle.registry_state.specs.declared.Insert.{Insert}
 use Rattle.registry_state.specs.Same.{same_token}
-use Rattle.registry_state.proofs.Tests.{same_id-true, same_id-refl}
+use Rattle.registry_state.proofs.Tests.{same_id-true}
 use Rattle.std.proofs.lemmas.Bool.{true≢false}
-use Rattle.list_words.proofs.Lists.{none_some, some_same}
+use Rattle.list_words.proofs.Lists.{none_some}
 use Rattle.joiner_core.specs.declared.flights.Waiting.{Waiting}
 use Rattle.turn_defs.specs.Joiner.{Flight, in_flight, is_for, landed}
 use Rattle.joiner_core.specs.Flying.{flight_of, claim_to}
@@ -20,21 +21,12 @@ abbrev pub flight_at : EventId × Waiting → Flight
 flight_at e = flight_of e.0 e.1
 
 same_id-sym : (a b : EventId) → same_id a b ≡ same_id b a
-same_id-sym a b = go (same_id a b) (same_id b a) refl refl
-  where
-    go : (x y : Bool) → same_id a b ≡ x → same_id b a ≡ y → same_id a b ≡ same_id b a
-    go true y p q = p ∙ sym (subst (λ (z : EventId). same_id z a ≡ true) (same_id-true a b p) (same_id-refl a))
-    go false true p q = subst (λ (z : EventId). same_id z b ≡ true) (same_id-true b a q) (same_id-refl b) ∙ sym q
-    go false false p q = p ∙ sym q
+same_id-sym a b = grind arith
 
 -- an id is in flight where it has an entry
 pub in_flight-lookup : (es : List (EventId × Waiting)) (i : EventId) → in_flight (map flight_at es) i ≡ is_some (lookup (same_id i) es)
 in_flight-lookup [] i = refl
-in_flight-lookup (e ∷ es) i = ap (λ b. b || in_flight (map flight_at es) i) (same_id-sym e.0 i) ∙ go (same_id i e.0) (in_flight-lookup es i)
-  where
-    go : (b : Bool) → in_flight (map flight_at es) i ≡ is_some (lookup (same_id i) es) → (b || in_flight (map flight_at es) i) ≡ is_some (cond b (Some e.1) (lookup (same_id i) es))
-    go true h = refl
-    go false h = h
+in_flight-lookup (e ∷ es) i = grind (arith, same_id-sym, in_flight-lookup es i)
 
 pub flights-push : (es : List (EventId × Waiting)) (e : EventId × Waiting) → map flight_at (es ++ e ∷ []) ≡ map flight_at es ++ flight_at e ∷ []
 flights-push [] e = refl
@@ -75,11 +67,7 @@ find-lookup (e ∷ es) x d = go (same_id x.id e.0) refl (find-lookup es x d.1)
 -- what isn't in flight leaves nothing
 pub landed-none : (fs : List Flight) (x : Insert) → find (is_for x) fs ≡ None → landed fs x ≡ fs
 landed-none [] x h = refl
-landed-none (f ∷ fs) x h = go (is_for x f) h (landed-none fs x)
-  where
-    go : (b : Bool) → cond b (Some f) (find (is_for x) fs) ≡ None → (find (is_for x) fs ≡ None → landed fs x ≡ fs) → cond b (landed fs x) (f ∷ landed fs x) ≡ f ∷ fs
-    go true h rec = none_some f (sym h)
-    go false h rec = let r = rec h in λ j. f ∷ r j
+landed-none (f ∷ fs) x h = grind (arith, landed-none fs x)
 
 -- what is in flight leaves by its id
 pub landed-some : (es : List (EventId × Waiting)) (x : Insert) → IsDistinct same_id (keys_of es) → is_some (find (is_for x) (map flight_at es)) ≡ true → landed (map flight_at es) x ≡ map flight_at (shift_remove_entry (same_id x.id) es)
@@ -96,14 +84,10 @@ landed-some (e ∷ es) x d h = by_id (same_id x.id e.0) refl h (landed-some es x
         → (is_some (find (is_for x) (map flight_at es)) ≡ true → landed (map flight_at es) x ≡ map flight_at (shift_remove_entry (same_id x.id) es))
         → cond (same_id e.0 x.id && same_token e.1.token x.token) (landed (map flight_at es) x) (flight_at e ∷ landed (map flight_at es) x) ≡ map flight_at (cond b es (e ∷ shift_remove_entry (same_id x.id) es))
     by_id true p h rec = by_token (subst (λ (i : EventId). Lacks i es) (sym (same_id-true x.id e.0 p)) d.0) (same_id e.0 x.id) (same_token e.1.token x.token) (other x.id e.0 true p) h
-    by_id false p h rec =
-        let s = other x.id e.0 false p in
-        let r = rec (sym (ap (λ b. is_some (cond (b && same_token e.1.token x.token) (Some (flight_at e)) (find (is_for x) (map flight_at es)))) s) ∙ h) in
-        ap (λ b. cond (b && same_token e.1.token x.token) (landed (map flight_at es) x) (flight_at e ∷ landed (map flight_at es) x)) s ∙ (λ j. flight_at e ∷ r j)
+    by_id false p h rec = grind arith
 
 pub is_some-mapped : {A B : Type 0} (f : A → B) (o : Option A) → is_some (option_map f o) ≡ is_some o
-is_some-mapped f None = refl
-is_some-mapped f (Some a) = refl
+is_some-mapped f h = grind arith
 
 -- ---- what has spellings
 pub held-push : (es : List (EventId × Waiting)) (e : EventId × Waiting) → AllByRecursion IsHeld es → IsHeld e → AllByRecursion IsHeld (es ++ e ∷ [])
@@ -112,23 +96,12 @@ held-push (x ∷ es) e all h = (all.0, held-push es e all.1 h)
 
 pub held-removed : (test : EventId → Bool) (es : List (EventId × Waiting)) → AllByRecursion IsHeld es → AllByRecursion IsHeld (shift_remove_entry test es)
 held-removed test [] all = tt
-held-removed test (e ∷ es) all = go (test e.0) (held-removed test es all.1)
-  where
-    go : (b : Bool) → AllByRecursion IsHeld (shift_remove_entry test es) → AllByRecursion IsHeld (cond b es (e ∷ shift_remove_entry test es))
-    go true h = all.1
-    go false h = (all.0, h)
+held-removed test (e ∷ es) all = grind (arith, held-removed test es all.1)
 
 -- the entry of an id that has one
 pub held-lookup : (es : List (EventId × Waiting)) (i : EventId) (w : Waiting) → AllByRecursion IsHeld es → lookup (same_id i) es ≡ Some w → IsHeld (i, w)
 held-lookup [] i w all h = none_some w h
-held-lookup (e ∷ es) i w all h = go (same_id i e.0) refl h (held-lookup es i w all.1)
-  where
-    go : (b : Bool) → same_id i e.0 ≡ b → cond b (Some e.1) (lookup (same_id i) es) ≡ Some w → (lookup (same_id i) es ≡ Some w → IsHeld (i, w)) → IsHeld (i, w)
-    go true p h rec =
-        let one = same_id-true i e.0 p in
-        let same = some_same e.1 w h in
-        subst (λ (x : EventId × Waiting). IsHeld x) (λ j. (sym one j, same j)) all.0
-    go false p h rec = rec h
+held-lookup (e ∷ es) i w all h = grind (arith, held-lookup es i w all.1)
 
 -- the inserts of what is in flight
 pub held-claims : (site : ℕ) (es : List (EventId × Waiting)) → AllByRecursion IsHeld es → ArePackets (map (claim_to site) (map flight_at es))

@@ -14,7 +14,6 @@ use Rattle.turn_defs.specs.Joiner.{JoinerKept, JoinerLive, land_joiner}
 use Rattle.joiner_core.specs.Standing.{Serves, Stands, IsSame, Answers, note_of}
 use Rattle.joiner_core.specs.declared.turn.Turn.{Turn}
 use Rattle.joiner_core.specs.declared.turn.JoinerNote.{JoinerNote}
-use Rattle.joiner_core.specs.declared.turn.JoinerNote.TheVariants as notes
 use Rattle.joiner_core.specs.declared.node_core.JoinerCore.{JoinerCore}
 use Rattle.joiner_node.specs.Read.{HasRead}
 use Rattle.joiner_node.specs.Disks.{MayHave, Holds, IsNext, with_note, bytes_of, AreInDoubt, IsFound}

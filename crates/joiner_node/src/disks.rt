@@ -36,7 +36,7 @@ pub(crate) struct Disks<D: Disk> {
 }
 
 impl<D: Disk> Disks<D> {
-    ghost use Rattle.std.specs.Prelude.{◌≡◌, ℕ, List, ◌+◌, ◌-◌, ◌^◌, ◌<◌, ◌≤◌, ◌⊎◌, min, ◌++◌, [], ◌∷◌, true, false, None, Some, Option, is_some, is_err, option_map, length, IsTrue, IfOk, IfErr, OnOk, OnErr, IsErrOf};
+    ghost use Rattle.std.specs.Prelude.{◌≡◌, ℕ, List, ◌+◌, ◌-◌, ◌^◌, ◌<◌, ◌≤◌, ◌⊎◌, min, ◌++◌, [], ◌∷◌, true, false, None, Some, Option, is_some, is_err, option_map, length, IsTrue, IfOk, IfErr, OnOk, OnErr};
     ghost use Rattle.outside.specs.Disk.{Throughout};
     ghost use Rattle.outside.specs.Faults.{Rose};
     ghost use Rattle.outside.specs.Plans.{MeetsPlan};
@@ -54,7 +54,7 @@ impl<D: Disk> Disks<D> {
     ghost use Rattle.turn_defs.specs.Joiner.{JoinerKept};
     ghost use Rattle.joiner_core.specs.declared.turn.JoinerNote.{JoinerNote};
     ghost use Rattle.joiner_node.specs.Records.{recorded_as, IsOwn, IsUnspent};
-    ghost use Rattle.joiner_node.specs.Disks.{EpochOr, PairsOr, MayHave, Holds, AreKept, AreRead, IsNext, with_note, bytes_of, InDoubt, AreInDoubt, IsLeftBehind, IsFound, counted, has_more, IsRoomFor};
+    ghost use Rattle.joiner_node.specs.Disks.{EpochOr, PairsOr, MayHave, Holds, AreKept, AreRead, IsNext, with_note, bytes_of, AreInDoubt, IsLeftBehind, IsFound, counted, has_more, IsRoomFor};
 
     // Of journals that are ready.
     pub(crate) fn new(alloc: Global, epochs: EpochJournal<D>, log: OutputLog<D>) -> Disks<D>

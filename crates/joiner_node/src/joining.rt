@@ -30,7 +30,6 @@ impl<L: LogFile> Joining<L> {
     ghost use Rattle.turn_defs.specs.Packets.{IsPacket};
     ghost use Rattle.turn_defs.specs.declared.node.Input.TheVariants.{Deliver};
     ghost use Rattle.turn_defs.specs.Setting.{Setting, site_of_joiner};
-    ghost use Rattle.turn_defs.specs.Turns.{land};
     ghost use Rattle.site_node.specs.Bytes.{IsInput};
     ghost use Rattle.site_node.specs.Faults.{IsReadFault, is_read_fault};
     ghost use Rattle.site_node.specs.States.{Fits as MayGet};

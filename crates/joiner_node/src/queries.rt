@@ -17,7 +17,7 @@ pub(crate) struct Queries<L: LogFile> {
 }
 
 impl<L: LogFile> Queries<L> {
-    ghost use Rattle.std.specs.Prelude.{◌≡◌, List, IfOk, IfErr, IfSome, IfNone, IsTrue};
+    ghost use Rattle.std.specs.Prelude.{◌≡◌, List, IfOk, IfErr, IfSome, IsTrue};
     ghost use Rattle.outside.specs.Faults.{tallied};
     ghost use Rattle.event_store.specs.Read.{is_read_fault};
     ghost use Rattle.log_records.specs.declared.records.QueryRec.{QueryRec as Query};

@@ -1,6 +1,5 @@
 // Notes and their records.
 ghost use Rattle.std.specs.Prelude.{◌≡◌, IfOk};
-ghost use Rattle.output_log.specs.Pairs.{record_of};
 ghost use Rattle.turn_defs.specs.Spellings.{IsPair};
 ghost use Rattle.joiner_core.specs.Spelled.{IsWritten};
 ghost use Rattle.joiner_node.specs.Records.{recorded_as, pair_record, IsAbove, IsOwn, IsUnspent};
@@ -36,7 +35,7 @@ pub(crate) fn recorded(
             if epoch <= kept {
                 return Ok(None);
             }
-            let payload = Payload::new(Vec::from_slice(alloc, &epoch_frame(epoch))?)?;
+            let payload = Payload::from_slice(alloc, &epoch_frame(epoch))?;
             Ok(Some(Record::Epoch(payload)))
         }
         Some(JoinerNote::Pair(pair)) => {

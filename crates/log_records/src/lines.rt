@@ -9,6 +9,7 @@ use crate::{ClickRec, QueryRec, Text, Why};
 use event_id::{EventId, parse};
 use list_words::split_once;
 use std::alloc::Global;
+use wire_core::Origin;
 
 /// The longest line, without its line feed.
 pub const MAX_LINE: usize = 296;
@@ -39,7 +40,7 @@ fn query_of(alloc: Global, line: &[u8]) -> Result<QueryRec, Why>
     ensures why { IfErr result (OrMemory (QueryWhy line.now)) }
 {
     let (id, text) = query_parts(line)?;
-    let text = Text::of_bytes(alloc, text)?;
+    let text = Text::of_bytes(Origin::new(alloc), text, 0).map_err(|_| Why::Memory)?;
     Ok(QueryRec { id, text })
 }
 
@@ -48,7 +49,7 @@ fn click_of(alloc: Global, line: &[u8]) -> Result<ClickRec, Why>
     ensures why { IfErr result (OrMemory (ClickWhy line.now)) }
 {
     let (id, query, text) = click_parts(line)?;
-    let text = Text::of_bytes(alloc, text)?;
+    let text = Text::of_bytes(Origin::new(alloc), text, 0).map_err(|_| Why::Memory)?;
     Ok(ClickRec { id, query, text })
 }
 

@@ -42,18 +42,15 @@ first_all (suc i) (x ∷ xs) (y ∷ ys) so le = (so.0, first_all i xs ys so.1 (o
 -- none of their calls is planned to fail
 pub calm_stops : (xs ys : List Kept) → AreCalmed xs ys → (name : DiskName) (call : ℕ) → stops_in [] name (disk_of ys name) call ≡ false
 calm_stops [] [] so name call = refl
-calm_stops [] (y ∷ ys) so name call = absurd so
-calm_stops (x ∷ xs) [] so name call = absurd so
 calm_stops (x ∷ xs) (y ∷ ys) so name call = grind (arith, calm_stops xs ys so.1 name call)
+calm_stops _ _ so name call = absurd so
 
 pub calm_images : (xs ys : List Kept) → AreCalmed xs ys → (name : DiskName) (c : List ℕ) → ImageIn (disk_of ys name) c → ImageIn (disk_of xs name) c
 calm_images [] [] so name c h = h
-calm_images [] (y ∷ ys) so name c h = absurd so
-calm_images (x ∷ xs) [] so name c h = absurd so
 calm_images (x ∷ xs) (y ∷ ys) so name c h = grind (arith, calm_images xs ys so.1 name c)
+calm_images _ _ so name c h = absurd so
 
 pub calm_made : (xs ys : List Kept) → AreCalmed xs ys → (name : DiskName) → made_in (disk_of ys name) ≡ made_in (disk_of xs name)
 calm_made [] [] so name = refl
-calm_made [] (y ∷ ys) so name = absurd so
-calm_made (x ∷ xs) [] so name = absurd so
 calm_made (x ∷ xs) (y ∷ ys) so name = grind (arith, calm_made xs ys so.1 name)
+calm_made _ _ so name = absurd so

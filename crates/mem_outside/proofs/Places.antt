@@ -13,10 +13,7 @@ below a b k u v low = grind (arith, nat_tests)
 pub above : (a b k u v : ℕ) → b ≤ k → cond (leb a k && ltb k b) u v ≡ v
 above a b k u v high = grind (arith, nat_tests)
 
-pub place_mid : (xs ys : List ℕ) (a b k : ℕ) → a ≤ b → b ≤ length xs → length ys ≡ b - a → k < length xs → get_or (put_mid a (b - a) xs ys) k 0 ≡ cond (leb a k && ltb k b) (get_or ys (k - a) 0) (get_or xs k 0)
-place_mid xs ys a b k ab le size lt = grind (arith, get_or_append_left, get_or-take, below, inside, get_or-append_right, get_or-drop, above, length-take-le)
-
 -- a part was written, of which each byte is known by its place
 pub written_at : (xs ys : List ℕ) (value : ℕ → ℕ) (at len a b k : ℕ) → a ≡ min at (length xs) → b ≡ min (min (at + len) 18446744073709551615) (length xs) → length xs < 2 ^ 64 → length ys ≡ b - a
     → ((j : ℕ) → a ≤ j → j < b → get_or ys (j - a) 0 ≡ value j) → k < length xs → get_or (put_mid a (b - a) xs ys) k 0 ≡ cond (leb at k && ltb k (at + len)) (value k) (get_or xs k 0)
-written_at xs ys value at len a b k is_a is_b small size known lt = grind (arith, place_mid, below, inside, above)
+written_at xs ys value at len a b k is_a is_b small size known lt = grind (arith, get_or_append_left, get_or-take, below, inside, get_or-append_right, get_or-drop, above, length-take-le)

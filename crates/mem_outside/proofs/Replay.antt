@@ -1,14 +1,11 @@
 -- The record of calls, one call more, and what the state after it is.
-use Rattle.std.proofs.Common.{◌≡◌, ℕ, zero, suc, ◌+◌, ◌≤◌, min, max, List, [], ◌∷◌, ◌++◌, length, take, drop, refl, sym, ◌∙◌, ap, arith, append_assoc, length-append}
+use Rattle.std.proofs.Common.{◌≡◌, ℕ, suc, ◌+◌, ◌≤◌, max, List, [], ◌∷◌, ◌++◌, length, take, drop, refl, sym, ◌∙◌, ap, arith, append_assoc, length-append}
 use Rattle.std.proofs.lemmas.List.{take-append-le, length-replicate, take_at, drop_at, take-append-drop, length-take-le, length-drop}
 use Rattle.outside.specs.Disk.{Torn}
 use Rattle.mem_outside.specs.declared.call.Call.{Call}
 use Rattle.mem_outside.specs.declared.call.Call.TheVariants.{Write, Sync, FailedSync, Reopen}
 use Rattle.outside.specs.declared.image.Image.{Image}
-use Rattle.mem_outside.specs.Past.{put, State, settled, after_write, image_to_take, after, bytes_of, replay, total, state_after, IsImage}
-
-take_front : (n : ℕ) (xs ys : List ℕ) → n ≤ length xs → take n (xs ++ ys) ≡ take n xs
-take_front n xs ys le = take-append-le n xs ys le
+use Rattle.mem_outside.specs.Past.{put, State, settled, image_to_take, after, bytes_of, replay, total, state_after, IsImage}
 
 drop_front : (n : ℕ) (xs ys : List ℕ) → n ≤ length xs → drop n (xs ++ ys) ≡ drop n xs ++ ys
 drop_front n xs ys le =
@@ -17,7 +14,7 @@ drop_front n xs ys le =
 
 -- a call's bytes are those in front
 pub after_front : (s : State) (call : Call) (bytes more : List ℕ) → bytes_of call ≤ length bytes → after s call (bytes ++ more) ≡ after s call bytes
-after_front s call bytes more le = grind (arith, take_front)
+after_front s call bytes more le = grind (arith, take-append-le)
 
 -- bytes behind those of the calls change nothing
 pub replay_front : (s : State) (calls : List Call) (bytes more : List ℕ) → total calls ≤ length bytes → replay s calls (bytes ++ more) ≡ replay s calls bytes
@@ -43,9 +40,8 @@ total_push [] call = omega arith
 total_push (c ∷ calls) call = omega (arith, total_push calls call)
 
 pub total_take : (k : ℕ) (calls : List Call) → total (take k calls) ≤ total calls
-total_take zero calls = omega arith
-total_take (suc k) [] = omega arith
 total_take (suc k) (c ∷ calls) = omega (arith, total_take k calls)
+total_take _ _ = omega arith
 
 -- a write in place is one of those that a stop may cut short
 pub put_torn : (old : List ℕ) (at : ℕ) (bytes : List ℕ) → at ≤ length old → Torn at (length bytes) old (put old at bytes)
@@ -69,11 +65,8 @@ settled_good bytes = record { synced = refl; written = refl; noise = refl; as_lo
 pub length-put : (old : List ℕ) (at : ℕ) (bytes : List ℕ) → at ≤ length old → length (put old at bytes) ≡ max (length old) (at + length bytes)
 length-put old at bytes le = grind (arith, length-take-le, length-append, length-drop)
 
-write_good : (s : State) (at : ℕ) (bytes : List ℕ) → at ≤ length s.written → IsGood s → IsGood (after_write s at bytes)
-write_good s at bytes le good = grind (arith, length-replicate, same_torn, put_torn, length-put)
-
 pub after_good : (s : State) (call : Call) (bytes : List ℕ) → IsGood s → IsGood (after s call bytes)
-after_good s (Write at n) bytes good = write_good s (min at (length s.written)) (take n bytes) (omega arith) good
+after_good s (Write at n) bytes good = grind (arith, length-replicate, same_torn, put_torn, length-put)
 after_good s Sync bytes good = settled_good s.written
 after_good s FailedSync bytes good = good
 after_good s (Reopen image) bytes good = settled_good (image_to_take image s)

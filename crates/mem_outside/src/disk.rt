@@ -1,5 +1,5 @@
 // A disk in memory, with stops that are planned.
-ghost use Rattle.std.specs.Prelude.{◌≡◌, ◌<◌, ◌≤◌, ◌+◌, ◌^◌, ◌++◌, [], ◌∷◌, true, false, length, drop, Option, None, Some, IfOk, is_some, is_err, IsErr, IsTrue, List, ℕ, OnOk, OnErr};
+ghost use Rattle.std.specs.Prelude.{◌≡◌, ◌<◌, ◌≤◌, ◌+◌, ◌^◌, ◌++◌, [], ◌∷◌, true, length, Option, None, Some, IfOk, is_some, is_err, List, ℕ, OnOk, OnErr};
 ghost use Rattle.outside.specs.Faults.{tallied};
 ghost use Rattle.mem_outside.specs.Past.{HasImage, HadImage, only_now};
 ghost use Rattle.mem_outside.specs.Plan.{planned, is_planned};

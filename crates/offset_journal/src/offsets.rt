@@ -10,7 +10,7 @@ ghost use Rattle.gate_journal.specs.Rising as numbers;
 ghost use Rattle.offset_journal.specs.Offsets as defs;
 ghost use Rattle.offset_journal.specs.Offsets.{next_offset, offsets, MayCome};
 
-use gate_journal::{Appends, Record, RecordJournal};
+use gate_journal::{Appends, Origin, Record, RecordJournal};
 use std::alloc::{AllocError, Global};
 
 /// The first byte of a record.
@@ -83,7 +83,7 @@ impl Record for Offsets {
         Ok(Offsets { offset: 0 })
     }
 
-    fn take(&mut self, _: Global, payload: &[u8]) -> Result<bool, AllocError> {
+    fn take(&mut self, _: Origin, payload: &[u8]) -> Result<bool, AllocError> {
         match offset_above(self.offset, payload) {
             Some(offset) => {
                 self.offset = offset;

@@ -4,7 +4,7 @@ ghost use Rattle.std.proofs.Props.{props};
 ghost use Rattle.turn_defs.specs.Spellings.{IsPair};
 
 use crate::read_pair;
-use gate_journal::{Record, RecordJournal};
+use gate_journal::{Origin, Record, RecordJournal};
 use std::alloc::{AllocError, Global};
 use turn_defs::PairRec;
 
@@ -71,8 +71,8 @@ impl Record for Outputs {
         })
     }
 
-    fn take(&mut self, alloc: Global, payload: &[u8]) -> Result<bool, AllocError> {
-        match read_pair(alloc, payload)? {
+    fn take(&mut self, origin: Origin, payload: &[u8]) -> Result<bool, AllocError> {
+        match read_pair(origin, payload)? {
             Some(pair) => {
                 self.pairs.push(pair)?;
                 Ok(true)

@@ -1,16 +1,16 @@
 // A pair and its record.
-ghost use Rattle.std.specs.Prelude.{◌≡◌, ◌++◌, List, ℕ, Some, IfOk, IfSome, IfNone, MatchResult};
-ghost use Rattle.packet_codec.specs.Stops.{IsMemory};
-ghost use Rattle.output_log.specs.Pairs.{fields_of, record_of, IsOther};
+ghost use Rattle.std.specs.Prelude.{◌≡◌, Some, IfOk, IfSome, IfNone};
+ghost use Rattle.output_log.specs.Pairs.{record_of, IsOther};
 ghost use Rattle.turn_defs.specs.Spellings.{IsPair};
 
 use gate_journal::Payload;
 use log_records::{ClickRec, QueryRec};
-use packet_codec::{Field, FieldFault};
+use packet_codec::Field;
+use packet_codec::fields::{Stop, read_three};
 use registry_state::Token;
 use std::alloc::{AllocError, Global};
 use turn_defs::PairRec;
-use wire_core::{Bytes, Reader};
+use wire_core::{Bytes, Origin};
 
 /// The first byte of a record.
 const TAG: u8 = 6;
@@ -36,41 +36,34 @@ pub fn pair_frame(alloc: Global, pair: &PairRec) -> Result<Payload, AllocError>
     Ok(bytes)
 }
 
-/// The pair of a record, or None where it is no pair's. Linear in the record. It allocates the texts.
-pub fn read_pair(alloc: Global, payload: &[u8]) -> Result<Option<PairRec>, AllocError>
+/// The pair of a record, or None where it is no pair's. Linear in the record. Its texts are parts of the origin's shared
+/// bytes, and allocated where it has none.
+pub fn read_pair(origin: Origin, payload: &[u8]) -> Result<Option<PairRec>, AllocError>
     ensures found { IfOk result (λ read. IfSome read (λ pair. IsPair pair × (payload.now ≡ record_of pair))) }
     ensures none { IfOk result (λ read. IfNone read (IsOther payload.now)) }
     ensures only { (pair : PairRec) → IsPair pair → payload.now ≡ record_of pair → IfOk result (λ read. read ≡ Some pair) }
 {
-    let mut from = Reader::new(payload);
-    match from.take_u8() {
-        Ok(TAG) => {}
-        _ => return Ok(None),
+    ClickRec::told_apart();
+    QueryRec::told_apart();
+    Token::told_apart();
+    let Some((tag, fields)) = payload.split_first() else {
+        return Ok(None);
+    };
+    if *tag != TAG {
+        return Ok(None);
     }
-    match take_pair(alloc, &mut from) {
-        Ok(pair) => {
-            if from.rest().is_empty() {
-                Ok(Some(pair))
-            } else {
-                Ok(None)
+    match read_three::<ClickRec, QueryRec, Token>(origin, fields) {
+        Ok((click, query, token, rest)) => {
+            if rest.is_empty() {
+                return Ok(Some(PairRec {
+                    click,
+                    query,
+                    token,
+                }));
             }
+            Ok(None)
         }
-        Err(FieldFault::BadField { .. }) => Ok(None),
-        Err(FieldFault::Memory) => Err(AllocError),
+        Err(Stop::Bad { .. }) => Ok(None),
+        Err(Stop::Memory) => Err(AllocError),
     }
-}
-
-// The pair whose fields what is left begins with.
-fn take_pair(alloc: Global, from: &mut Reader) -> Result<PairRec, FieldFault>
-    ensures found { IfOk result (λ pair. IsPair pair × (from.old ≡ fields_of pair ++ from.new)) }
-    ensures only { (pair : PairRec) (tail : List ℕ) → IsPair pair → from.old ≡ fields_of pair ++ tail → MatchResult result (λ read. (read ≡ pair) × (from.new ≡ tail)) IsMemory }
-{
-    let click = ClickRec::take(alloc, from)?;
-    let query = QueryRec::take(alloc, from)?;
-    let token = Token::take(alloc, from)?;
-    Ok(PairRec {
-        click,
-        query,
-        token,
-    })
 }

@@ -14,12 +14,12 @@ use ballot_core::Ballot;
 use log_records::ClickRec;
 use paxos_defs::Place;
 use registry_state::{Answer, Batch, Insert};
-use std::alloc::Global;
 use turn_defs::{Outcome, Packet};
+use wire_core::Origin;
 
-/// The packet that the bytes spell, all of them. Linear in the bytes. A text and a batch's list of inserts are allocated,
-/// and nothing else.
-pub fn decode(alloc: Global, bytes: &[u8]) -> Result<Packet, DecodeFault>
+/// The packet that the bytes spell, all of them. Linear in the bytes. A batch's list of inserts is allocated, and a text
+/// where the origin has no shared bytes, and nothing else.
+pub fn decode(origin: Origin, bytes: &[u8]) -> Result<Packet, DecodeFault>
     // What is decoded is spelled so.
     ensures found { IfOk result (λ p. IsPacket p × (bytes.now ≡ packet p)) }
     // What is spelled so is decoded, unless memory runs out: a packet that was encoded comes back.
@@ -29,7 +29,7 @@ pub fn decode(alloc: Global, bytes: &[u8]) -> Result<Packet, DecodeFault>
     // Bytes that spell no packet are refused there, unless memory runs out.
     ensures refused { (at : ℕ) → IsBadPacket bytes.now at → MatchResult result (λ p. ⊥) (Tells at) }
 {
-    match read_packet(alloc, bytes) {
+    match read_packet(origin, bytes) {
         Ok((packet, rest)) => {
             if rest.is_empty() {
                 return Ok(packet);
@@ -46,17 +46,17 @@ pub fn decode(alloc: Global, bytes: &[u8]) -> Result<Packet, DecodeFault>
 }
 
 // The packet whose spelling the bytes begin with, and the bytes behind it.
-fn read_packet(alloc: Global, bytes: &[u8]) -> Result<(Packet, &[u8]), Stop>
+fn read_packet<'a>(origin: Origin, bytes: &'a [u8]) -> Result<(Packet, &'a [u8]), Stop>
     ensures is { IfOk result (λ p. IsPacket p.0) }
     ensures found { IfOk result (λ p. bytes.now ≡ packet p.0 ++ p.1.now) }
     ensures bad { IfErr result (Stops Packets bytes.now) }
 {
     let (tag, rest) = read_tag(bytes, JOIN, CHOSEN)?;
-    read_fields(alloc, tag, rest)
+    read_fields(origin, tag, rest)
 }
 
 // The packet of this tag whose fields the bytes begin with, and the bytes behind them.
-fn read_fields(alloc: Global, tag: u8, bytes: &[u8]) -> Result<(Packet, &[u8]), Stop>
+fn read_fields<'a>(origin: Origin, tag: u8, bytes: &'a [u8]) -> Result<(Packet, &'a [u8]), Stop>
     requires low { 0x11 ≤ tag }
     requires high { tag ≤ 0x1A }
     ensures is { IfOk result (λ p. IsPacket p.0) }
@@ -65,39 +65,39 @@ fn read_fields(alloc: Global, tag: u8, bytes: &[u8]) -> Result<(Packet, &[u8]), 
 {
     match tag {
         JOIN => {
-            let (position, click, rest) = read_two::<u64, ClickRec>(alloc, bytes)?;
+            let (position, click, rest) = read_two::<u64, ClickRec>(origin, bytes)?;
             Ok((Packet::Join { position, click }, rest))
         }
         JOINED => {
-            let (position, outcome, rest) = read_two::<u64, Outcome>(alloc, bytes)?;
+            let (position, outcome, rest) = read_two::<u64, Outcome>(origin, bytes)?;
             Ok((Packet::Joined { position, outcome }, rest))
         }
         INSERT => {
-            let (insert, rest) = Insert::read(alloc, bytes)?;
+            let (insert, rest) = Insert::read(origin, bytes)?;
             Ok((Packet::Insert(insert), rest))
         }
         REPLY => {
-            let (insert, answer, rest) = read_two::<Insert, Answer>(alloc, bytes)?;
+            let (insert, answer, rest) = read_two::<Insert, Answer>(origin, bytes)?;
             Ok((Packet::Reply { insert, answer }, rest))
         }
         PREPARE => {
-            let (place, ballot, rest) = read_two::<Place, Ballot>(alloc, bytes)?;
+            let (place, ballot, rest) = read_two::<Place, Ballot>(origin, bytes)?;
             Ok((Packet::Prepare { place, ballot }, rest))
         }
         ACCEPTED => {
-            let (place, ballot, rest) = read_two::<Place, Ballot>(alloc, bytes)?;
+            let (place, ballot, rest) = read_two::<Place, Ballot>(origin, bytes)?;
             Ok((Packet::Accepted { place, ballot }, rest))
         }
         CHOSEN => {
-            let (place, batch, rest) = read_two::<Place, Batch>(alloc, bytes)?;
+            let (place, batch, rest) = read_two::<Place, Batch>(origin, bytes)?;
             Ok((Packet::Chosen { place, batch }, rest))
         }
-        _ => read_more(alloc, tag, bytes),
+        _ => read_more(origin, tag, bytes),
     }
 }
 
 // The packet of this tag, for a tag whose packets have three fields.
-fn read_more(alloc: Global, tag: u8, bytes: &[u8]) -> Result<(Packet, &[u8]), Stop>
+fn read_more<'a>(origin: Origin, tag: u8, bytes: &'a [u8]) -> Result<(Packet, &'a [u8]), Stop>
     requires low { 0x16 ≤ tag }
     requires high { tag ≤ 0x18 }
     ensures is { IfOk result (λ p. IsPacket p.0) }
@@ -107,7 +107,7 @@ fn read_more(alloc: Global, tag: u8, bytes: &[u8]) -> Result<(Packet, &[u8]), St
     match tag {
         PROMISE => {
             let (place, ballot, prior, rest) = read_three::<Place, Ballot, Option<(Ballot, Batch)>>(
-                alloc, bytes,
+                origin, bytes,
             )?;
             let packet = Packet::Promise {
                 place,
@@ -118,7 +118,7 @@ fn read_more(alloc: Global, tag: u8, bytes: &[u8]) -> Result<(Packet, &[u8]), St
         }
         NACK => {
             let (place, ballot, promised, rest) = read_three::<Place, Ballot, Ballot>(
-                alloc, bytes,
+                origin, bytes,
             )?;
             let packet = Packet::Nack {
                 place,
@@ -128,7 +128,7 @@ fn read_more(alloc: Global, tag: u8, bytes: &[u8]) -> Result<(Packet, &[u8]), St
             Ok((packet, rest))
         }
         _ => {
-            let (place, ballot, batch, rest) = read_three::<Place, Ballot, Batch>(alloc, bytes)?;
+            let (place, ballot, batch, rest) = read_three::<Place, Ballot, Batch>(origin, bytes)?;
             let packet = Packet::Accept {
                 place,
                 ballot,

@@ -14,3 +14,4 @@ pub use encoding::encode;
 pub use fault::DecodeFault;
 pub use fields::{Field, FieldFault};
 pub use turn_defs::{Input, Node, Outcome, Packet, To};
+pub use wire_core::Origin;

@@ -5,9 +5,9 @@ ghost use Rattle.turn_defs.specs.Packets.{outcome, IsOutcome};
 use crate::Field;
 use crate::fields::{Stop, read_tag, token_bytes, write};
 use registry_state::Token;
-use std::alloc::{AllocError, Global};
+use std::alloc::AllocError;
 use turn_defs::Outcome;
-use wire_core::Bytes;
+use wire_core::{Bytes, Origin};
 
 const WRITTEN: u8 = 0;
 
@@ -36,20 +36,20 @@ impl Field for Outcome {
         to.put_bytes(&bytes[..end])
     }
 
-    fn read(alloc: Global, bytes: &[u8]) -> Result<(Outcome, &[u8]), Stop> {
+    fn read<'a>(origin: Origin, bytes: &'a [u8]) -> Result<(Outcome, &'a [u8]), Stop> {
         let (tag, rest) = read_tag(bytes, WRITTEN, BUSY)?;
         match tag {
             WRITTEN => Ok((Outcome::Written, rest)),
             ALREADY => {
-                let (token, rest) = Token::read(alloc, rest)?;
+                let (token, rest) = Token::read(origin, rest)?;
                 Ok((Outcome::Already(token), rest))
             }
             TOO_OLD => {
-                let (bound, rest) = u64::read(alloc, rest)?;
+                let (bound, rest) = u64::read(origin, rest)?;
                 Ok((Outcome::TooOld(bound), rest))
             }
             NO_QUERY => {
-                let (lines, rest) = u64::read(alloc, rest)?;
+                let (lines, rest) = u64::read(origin, rest)?;
                 Ok((Outcome::NoQuery(lines), rest))
             }
             _ => Ok((Outcome::Busy, rest)),

@@ -9,7 +9,7 @@ use paxos_defs::Place;
 use registry_state::{Answer, Batch, Insert, Token};
 use script_lines::{Part, Stop, Words};
 use std::alloc::Global;
-use wire_core::{Bytes, Reader};
+use wire_core::{Bytes, Origin, Reader};
 
 /// Each row is a kind of field and bytes: how many of them a value takes, how many are left, whether it is put back so, and
 /// whether each front of its spelling is bad at its end. `tag FIRST LAST BYTES` reads a tag, `row BYTES` two numbers and three.
@@ -32,6 +32,7 @@ impl Part for Fields {
             "place" => taken::<Place>(alloc, words),
             "tag" => tag(alloc, words),
             "row" => row(alloc, &words.bytes(alloc)?),
+            "put" => put(alloc, words),
             kind => record(alloc, kind, words),
         }
     }
@@ -53,7 +54,7 @@ fn record(alloc: Global, kind: &str, words: &mut Words<'_>) -> Result<String, St
 fn taken<F: Field>(alloc: Global, words: &mut Words<'_>) -> Result<String, Stop> {
     let bytes = words.bytes(alloc)?;
     let mut reader = Reader::new(&bytes);
-    let value = match F::take(alloc, &mut reader) {
+    let value = match F::take(Origin::new(alloc), &mut reader) {
         Ok(value) => value,
         Err(FieldFault::BadField { at }) => return Ok(format!(in alloc; "bad at {at}")?),
         Err(FieldFault::Memory) => return Err(Stop::Memory),
@@ -82,7 +83,7 @@ fn taken<F: Field>(alloc: Global, words: &mut Words<'_>) -> Result<String, Stop>
 
 fn is_bad<F: Field>(alloc: Global, bytes: &[u8], at: usize) -> bool {
     let mut reader = Reader::new(bytes);
-    let fault = F::take(alloc, &mut reader).err();
+    let fault = F::take(Origin::new(alloc), &mut reader).err();
     fault == Some(FieldFault::BadField { at: at as u64 }) && reader.rest() == bytes
 }
 
@@ -100,10 +101,10 @@ fn tag(alloc: Global, words: &mut Words<'_>) -> Result<String, Stop> {
 
 // Two numbers and three, put one behind the other again.
 fn row(alloc: Global, bytes: &[u8]) -> Result<String, Stop> {
-    let Ok((one, two, rest)) = read_two::<u64, u64>(alloc, bytes) else {
+    let Ok((one, two, rest)) = read_two::<u64, u64>(Origin::new(alloc), bytes) else {
         return Ok(format!(in alloc; "no two numbers")?);
     };
-    let Ok((three, four, five, rest)) = read_three::<u64, u64, u64>(alloc, rest) else {
+    let Ok((three, four, five, rest)) = read_three::<u64, u64, u64>(Origin::new(alloc), rest) else {
         return Ok(format!(in alloc; "no three numbers")?);
     };
     let mut again = Bytes::new(alloc);
@@ -118,4 +119,15 @@ fn row(alloc: Global, bytes: &[u8]) -> Result<String, Stop> {
         "{one} {two}, {three} {four} {five}, then {} bytes, {back}",
         rest.len()
     )?)
+}
+
+// Numbers of one, two, four and eight bytes, and a list of bytes behind them.
+fn put(alloc: Global, words: &mut Words<'_>) -> Result<String, Stop> {
+    let mut bytes = Bytes::new(alloc);
+    bytes.put_u8(words.number()?)?;
+    bytes.put_u16(words.number()?)?;
+    bytes.put_u32(words.number()?)?;
+    bytes.put_u64(words.number()?)?;
+    bytes.put_bytes(&words.bytes(alloc)?)?;
+    Ok(hex::encode(alloc, bytes.as_slice())?)
 }

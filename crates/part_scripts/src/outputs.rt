@@ -1,7 +1,7 @@
 // Logs of joined pairs.
 use crate::gates::append;
 use crate::kinds::Kind;
-use gate_journal::{Journal, JournalFault};
+use gate_journal::{Journal, JournalFault, Origin};
 use log_records::{read_click, read_query};
 use mem_outside::MemDisk;
 use output_log::{OutputLog, Outputs, PairRec, pair_frame, read_pair};
@@ -35,7 +35,7 @@ impl Kind for PairsOnDisk {
     fn change(&mut self, alloc: Global, words: &mut Words<'_>) -> Result<String, Stop> {
         match words.word()? {
             "write" => write(alloc, &mut self.journal, words.behind()),
-            "read" => match read_pair(alloc, &words.bytes(alloc)?)? {
+            "read" => match read_pair(Origin::new(alloc), &words.bytes(alloc)?)? {
                 Some(pair) => told_pair(alloc, &pair),
                 None => Ok(format!(in alloc; "no pair")?),
             },

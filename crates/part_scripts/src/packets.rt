@@ -1,5 +1,5 @@
 // Packets and their bytes.
-use packet_codec::{DecodeFault, decode, encode};
+use packet_codec::{DecodeFault, Origin, decode, encode};
 use script_lines::{Part, Stop, Words};
 use std::alloc::Global;
 
@@ -16,7 +16,7 @@ impl Part for Packets {
         words: &mut Words<'_>,
     ) -> Result<String, Stop> {
         let bytes = words.bytes(alloc)?;
-        let packet = match decode(alloc, &bytes) {
+        let packet = match decode(Origin::new(alloc), &bytes) {
             Ok(packet) => packet,
             Err(DecodeFault::BadPacket { at }) => return Ok(format!(in alloc; "bad at {at}")?),
             Err(DecodeFault::Memory) => return Err(Stop::Memory),
@@ -34,5 +34,5 @@ impl Part for Packets {
 }
 
 fn is_bad(alloc: Global, bytes: &[u8], at: usize) -> bool {
-    decode(alloc, bytes).err() == Some(DecodeFault::BadPacket { at: at as u64 })
+    decode(Origin::new(alloc), bytes).err() == Some(DecodeFault::BadPacket { at: at as u64 })
 }

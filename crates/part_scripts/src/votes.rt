@@ -7,7 +7,7 @@ use script_lines::{Part, Stop, Words};
 use std::alloc::Global;
 use time_shards::Table;
 use turn_defs::PairRec;
-use verify_pass::{Journals, NoteList, PairList, TooSoon, classify, missing, too_soon};
+use verify_pass::{Journals, Latest, NoteList, PairList, TooSoon, classify, missing};
 
 /// `note ..` is of the next replica, which `replica` ends; `pair TOKEN CLICK / QUERY` is of the next output, which `output` ends.
 /// `classify TABLE ID..`, `missing TABLE` and `soon START` are asked of the ended ones.
@@ -153,7 +153,11 @@ fn unwritten(alloc: Global, journals: Journals, words: &mut Words<'_>) -> Result
 }
 
 fn soon(alloc: Global, journals: &Journals, start: u64) -> Result<String, Stop> {
-    match too_soon(journals, start) {
+    let mut latest = Latest::new();
+    for notes in &journals.notes {
+        latest.take_all(notes.as_slice(), start);
+    }
+    match latest.forbids(start) {
         Some(TooSoon::Bound(bound)) => Ok(format!(in alloc; "bound {bound}")?),
         Some(TooSoon::Id(id)) => {
             let id = told_id(alloc, id)?;

@@ -32,12 +32,7 @@ module _ {V : Type 0} {Offered : Place → Ballot → V → Type 0} {js js' : Li
   refusal_written r b promised h = record { vote = h.vote; cast = has_kept writes.grows r h.vote h.cast; at = h.at; above = h.above }
 
   pub offer_written : (b : Ballot) (v : V) → IsOffer js Offered p b v → IsOffer js' Offered p b v
-  offer_written b v h =
-      record {
-        safe = subst (λ (n : ℕ). IsSafe n (votes js' p) b v) (sym writes.members) (safe_kept writes.grows b v h.safe);
-        only = λ r w a. ⊎_elim (λ (o : HasAccepted (votes js p r) b w). h.only r w o) (λ (s : Offered p b w). h.one w s) (writes.came r b w a);
-        one = h.one;
-      }
+  offer_written b v h = grind (arith, safe_kept)
 
   pub answer_written : (r : ℕ) (b : Ballot) → IsAnswered js Offered r p b → IsAnswered js' Offered r p b
   answer_written r b h = (h.0, h.1, has_kept writes.grows r (acceptance b h.0) h.2)

@@ -3,7 +3,7 @@
 
 pub mod servers;
 
-ghost use Rattle.std.specs.Prelude.{◌≡◌, ℕ, List, [], ◌∷◌, Bool, replicate};
+ghost use Rattle.std.specs.Prelude.{◌≡◌, ℕ, [], ◌∷◌, Bool, replicate};
 ghost use Rattle.list_words.specs.Lists.{Begins};
 ghost use Rattle.paxos_defs.specs.declared.Place.{Place};
 ghost use Rattle.paxos_defs.specs.Agreement.{JournalsAgree, IsChosen, OneChosen};

@@ -1,5 +1,6 @@
 -- What a command answers, by what came of it.
-use Rattle.std.proofs.Common.{◌≡◌, ◌≢◌, ◌⊎◌, inr, ℕ, ◌≤◌, List, Bool, IsTrue, refl, arith}
+use Rattle.std.proofs.Common.{◌≡◌, ◌≢◌, ◌⊎◌, inl, inr, ⊎_elim, ℕ, ◌<◌, ◌≤◌, List, Bool, true, false, IsTrue, refl, arith}
+use mir.Val.{bool_byte}
 use Rattle.photon_cli.proofs.Words.{Counts, IsAnswered, IsFailedRead, RunFault, WordsFault, status_of, words_status}
 use Rattle.run_fault.specs.declared.fault.RunFault.TheVariants as fault
 use Rattle.command_words.specs.declared.asked.WordsFault.TheVariants as words_fault
@@ -32,3 +33,21 @@ unread sinks files out held status words_fault.Memory is = record {
   write = record { later = omega arith; rose = λ five. absurd (omega (arith, is, five)) };
   quiet = λ tells zero one five. refl;
 }
+
+-- ---- of a verification, whose status is whether a line is of a missing click
+
+pub zero_or_one : (missing : Bool) → (bool_byte missing ≡ 0) ⊎ (bool_byte missing ≡ 1)
+zero_or_one true = inr refl
+zero_or_one false = inl refl
+
+pub no_more : (missing : Bool) (n : ℕ) → 1 < n → bool_byte missing ≢ n
+no_more missing n more is = ⊎_elim (λ zero. omega (arith, zero, more, is)) (λ one. omega (arith, one, more, is)) (zero_or_one missing)
+
+pub verified : (missing : Bool) (P : Type 0) → (bool_byte missing ≡ 0) ⊎ ((bool_byte missing ≡ 1) ⊎ P)
+verified missing P = ⊎_elim inl (λ one. inr (inl one)) (zero_or_one missing)
+
+pub printed : (missing is : Bool) (P : Bool → Type 0) → bool_byte missing ≡ bool_byte is → P missing → P is
+printed true true P same p = p
+printed false false P same p = p
+printed true false P same p = absurd (omega (arith, same))
+printed false true P same p = absurd (omega (arith, same))

@@ -1,7 +1,7 @@
 -- Whole logs.
-use Rattle.std.proofs.Common.{◌≡◌, ◌≢◌, inl, inr, ℕ, suc, ◌+◌, ◌-◌, ◌^◌, ◌<◌, ◌≤◌, min, IsTrue, Bool, true, false, None, Result, Ok, List, [], ◌∷◌, ◌++◌, length, map, refl, sym, ap, subst, ◌∙◌, arith}
-use Rattle.std.specs.Prelude.{if◌then◌else◌, ◌↔◌, IfOk}
-use Rattle.photon_cli.proofs.Words.{cases_lt, map_push, take_all, length-append, length-map, Lacks, lacks_none, EventId, QueryRec, ClickRec, Why, BadLine, query_line, click_line, IsQuery, IsClick, OrMemory, placed, end_from, line_feed, whole, MAX_LOG, IsLog, NextWhy, IsQueryLog, IsClickLog, clicks_same, queries_found, clicks_found, Places, place_at, Keeps, Step, Lines, CheckFault, SoFar, AtEnd, WrongNext, IsStep, EndsAt, kept, AreLines, IsChecked, length-one}
+use Rattle.std.proofs.Common.{◌≡◌, ◌≢◌, inl, inr, ℕ, suc, ◌+◌, ◌-◌, ◌^◌, ◌<◌, ◌≤◌, min, IsTrue, Bool, true, false, None, List, [], ◌∷◌, ◌++◌, length, map, refl, sym, ap, subst, ◌∙◌, arith}
+use Rattle.std.specs.Prelude.{if◌then◌else◌, ◌↔◌}
+use Rattle.photon_cli.proofs.Words.{cases_lt, map_push, take_all, length-append, length-map, Lacks, lacks_none, EventId, ClickRec, Why, BadLine, click_line, IsClick, OrMemory, placed, end_from, line_feed, whole, MAX_LOG, IsLog, NextWhy, clicks_same, clicks_found, Places, place_at, Keeps, Step, Lines, SoFar, AtEnd, WrongNext, IsStep, EndsAt, kept, AreLines, IsChecked, length-one}
 use Rattle.log_records.specs.declared.why.Why.TheVariants as why
 use Rattle.log_records.specs.Check.{Refuses}
 use Rattle.photon_cli.specs.declared.log_check.step.Step.TheVariants as step
@@ -114,18 +114,3 @@ clicks_end log cs end_ h is ls holds =
     let there : ls ≡ placed 0 cs = holds.lines ∙ ap (placed 0) same in
     let from_start : 0 + length (whole (map click_line cs)) ≡ length (whole (map click_line cs)) = omega arith in
     is ∙ sym (ap (end_from 0) there ∙ ends_placed 0 cs ∙ from_start)
-
--- ---- both kinds
-
-pub queries_checked : (r : Result Lines CheckFault) (lines : Lines) (log : List ℕ) → r ≡ Ok lines → IfOk r (λ read. (rs : List QueryRec) × IsChecked query_line IsQuery (λ q. q.id) false log rs read) → (qs : List QueryRec) × IsQueryLog log qs × (lines.count ≡ length qs)
-queries_checked k lines log is h = grind (arith, queries_found)
-
-module _ (r : Result Lines CheckFault) (lines : Lines) (log : List ℕ) (is : r ≡ Ok lines) (h : IfOk r (λ read. (rs : List ClickRec) × IsChecked click_line IsClick (λ c. c.id) true log rs read)) where
-  clicks_here : (rs : List ClickRec) × IsChecked click_line IsClick (λ c. c.id) true log rs lines
-  clicks_here = subst (λ (x : Result Lines CheckFault). IfOk x (λ read. (rs : List ClickRec) × IsChecked click_line IsClick (λ c. c.id) true log rs read)) is h
-
-  pub clicks_checked : (cs : List ClickRec) × IsClickLog log cs × (lines.ids.items ≡ map (λ c. c.id) cs)
-  clicks_checked = (clicks_here.0, clicks_found log clicks_here.0 clicks_here.1.holds, clicks_here.1.ids)
-
-  pub clicks_ended : EndsAt log lines.end
-  clicks_ended = clicks_end log clicks_here.0 lines.end clicks_here.1.holds clicks_here.1.end_is

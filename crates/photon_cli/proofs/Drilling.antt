@@ -5,7 +5,6 @@ use Rattle.std.proofs.lemmas.Bool.{ne_eqb}
 use Rattle.photon_cli.proofs.Words.{list_any, IfSome, IsSomeAnd, Each, DiskName, DiskKind, Epoch, Output, Fuse, PlanStop, PlanView, ReportLine, RunFault, RunLog, Images, IsCauseOf, IsWelcome, Kept, KeptDisk, KeepsAs, EpochIs, IsKept, NotesAre, Setting, limit_at, limit_in, HasOutcome, Outcome, one_outcome, is_at, is_for, is_joiners, is_planned, of_joiners, planned_for, AtMost, StopsAtMost, StopsAsPlanned, none_of_joiners, RanAfresh, IsDrilled, IsHeardOf, IsOfDrill, AllInAll, Node, SparesNodes, ShardRow, StorePlace, Values, config_of, fuse_of, names_of}
 use Rattle.site_store.specs.Plans.{HasSoon}
 use Rattle.outside.specs.declared.store.DiskName.TheVariants as name
-use Rattle.run_fault.specs.declared.fault.Mismatch.TheVariants as mismatch
 use Rattle.run_fault.specs.declared.fault.RunFault.TheVariants as fault
 
 -- ---- stops that a plan doesn't have
@@ -52,7 +51,7 @@ one_at_most joiners disk n from is = let here : IsTrue false = is in absurd (cc 
 none_at_most : (joiners : ℕ) (disk : DiskName) → StopsAtMost joiners [] disk 0
 none_at_most joiners disk n from is = let here : IsTrue false = is in absurd (cc here)
 
-few_of : (v : Values) (table : List ShardRow) (n : Node) → AllInAll (StopsAtMost v.nodes.joiners []) (names_of (config_of v table) n) 1
+few_of : (v : Values) (table : List ShardRow) (n : Node) → AllInAll (StopsAtMost v.nodes.joiners []) (names_of (config_of v.horizon v.nodes table) n) 1
 few_of v table h = grind (arith, one_at_most, none_at_most)
 
 pub none_spares : (v : Values) → SparesNodes v []

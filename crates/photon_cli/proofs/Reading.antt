@@ -1,6 +1,6 @@
 -- Why a verification gives up, from what reading its store tells.
-use Rattle.std.proofs.Common.{◌≡◌, inl, inr, ℕ, ◌≤◌, List, Bool, IsTrue, Option, None, Some, refl, sym, subst, arith}
-use Rattle.std.specs.Prelude.{IsSomeAnd, ⊤}
+use Rattle.std.proofs.Common.{◌≡◌, inl, inr, ℕ, ◌≤◌, List, Bool, IsTrue, Option, None, refl, subst, arith}
+use Rattle.std.specs.Prelude.{⊤}
 use Rattle.photon_cli.proofs.Words.{REPLICAS, StoreFault, Rose, added, DiskName, end_from, Setting, IsLogOf, Misplaced, RunFault, of_place, Images, KeptDisk, AreTold, HasCause, HasFailed, PassesFor, IsCause, IsUnread, KeptStore, IsRead, cause_more, failed_rose, passed_more, unread_rose, TellsPlaces, CanBeRead, HasCauseInVerify, IsFailedRead}
 use Rattle.outside.specs.declared.faults.StoreFault.TheVariants as store
 
@@ -30,11 +30,6 @@ read_rose tells placed store_rose log_tells log end_ rose f cause (inr (l, is)) 
 -- the faults of a log that is shut are counted
 pub rose_shut : (first mid last old more : ℕ) → old ≡ 0 → first ≤ mid → last ≡ added mid more → Rose old more → Rose first last
 rose_shut first mid last old more fresh later count rose = omega (arith, fresh, later, count, rose)
-
--- an open log is that of the setting
-pub log_over : (o : Option (List ℕ)) (bytes : List ℕ) (g : Setting) → IsSomeAnd o (λ b. bytes ≡ b) → IsSomeAnd o (λ log. IsLogOf log g) → IsLogOf bytes g
-log_over None bytes g same over = absurd same
-log_over (Some log) bytes g same over = subst (λ b. IsLogOf b g) (sym same) over
 
 -- a directory that isn't placed
 pub place_stops : (g : Setting) (before : Images) (read faulted : Type 0) (f : StoreFault) → (f ≡ store.Disk → faulted) → HasCauseInVerify g before read faulted (of_place f)

@@ -1,7 +1,6 @@
 -- How a resharding ends at each fault.
 use Rattle.std.proofs.Common.{◌≡◌, ◌≢◌, ◌⊎◌, inl, inr, ⊎_elim, ◌++◌, ℕ, List, Bool, true, None, Result, Ok, Err, IsTrue, codes, refl, sym, ap, subst, ◌∙◌, arith}
 use Rattle.outside.specs.declared.store.DiskName.TheVariants as name
-use Rattle.run_fault.specs.declared.fault.Mismatch.TheVariants as mismatch
 use Rattle.run_fault.specs.declared.fault.RunFault.TheVariants as fault
 use Rattle.list_words.proofs.Lists.{each_more}
 use Rattle.time_shards.proofs.Texts.{row_same}

@@ -58,7 +58,7 @@ placed_ids ids cs are = ap (map (λ (c : ClickRec). c.id)) (clicks_back 0 cs) �
 
 -- the setting of these values and records
 abbrev pub setting_of : Values → List ShardRow → List QueryRec → List ClickRec → Setting
-setting_of v table qs cs = record { queries = qs; clicks = placed 0 cs; config = config_of v table }
+setting_of v table qs cs = record { queries = qs; clicks = placed 0 cs; config = config_of v.horizon v.nodes table }
 
 pub is_asked : (told : List ℕ → Option (List ℕ)) (v : Values) (table : List ShardRow) (qs : List QueryRec) (cs : List ClickRec) → IsTextOf v.nodes.shards table → AreLogs told v.queries v.clicks qs cs → IsAsked told v (setting_of v table qs cs)
 is_asked told v table qs cs text logs = grind (arith, within)
@@ -72,7 +72,7 @@ ends_there None g end_ h k = absurd h
 ends_there (Some log) g end_ h k = k g.clicks h.lines
 
 -- the setting that is asked for is that of the run: of the table that was read, and of the click log's end
-pub run_setting : (told now : List ℕ → Option (List ℕ)) (v : Values) (table : List ShardRow) (config : Config) → config ≡ config_of v table → (end_ : ℕ) (g : Setting)
+pub run_setting : (told now : List ℕ → Option (List ℕ)) (v : Values) (table : List ShardRow) (config : Config) → config ≡ config_of v.horizon v.nodes table → (end_ : ℕ) (g : Setting)
     → IsAsked told v g → IsTextOf v.nodes.shards table → ((n : List ℕ) → now n ≡ told n) → IsSomeAnd (told v.clicks) (λ log. EndsAt log end_) → IsSettingOf now v.queries v.clicks config end_ g
 run_setting told now v table config made end_ g asked text same ends =
     let n = asked.setting.numbers in

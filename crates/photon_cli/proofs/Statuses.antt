@@ -194,9 +194,6 @@ named_in_bulk v h own row = grind arith
 pub log_verify : (f : RunFault) → IsLogFault Clicks f → IsOfVerify f
 log_verify f h = of_log IsOfVerify Clicks (λ line w. tt) tt tt f h
 
-pub past_verify : (f : RunFault) → IsPast f → IsOfVerify f
-past_verify k h = grind arith
-
 pub verify_past : (f : RunFault) → IsOfVerify f → ((line : ℕ) (w : Why) → f ≡ fault.Refused Clicks line w → ⊥) → IsPast f
 verify_past h own line = grind arith
 

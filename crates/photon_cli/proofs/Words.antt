@@ -13,7 +13,6 @@ pub use Rattle.dispatch_node.specs.Places.{IsLogOf}
 pub use Rattle.event_id.specs.declared.id.EventId.{EventId}
 pub use Rattle.gate_journal.proofs.Growth.{continues_same}
 pub use Rattle.gate_journal.specs.Images.{GoesOn, StaysAs}
-pub use Rattle.list_words.proofs.Lists.{some_same}
 pub use Rattle.list_words.proofs.Splits.{lacks_none, split_same}
 pub use Rattle.list_words.specs.Bytes.{Lacks}
 pub use Rattle.list_words.specs.Lists.{Each}
@@ -38,7 +37,7 @@ pub use Rattle.log_records.specs.declared.why.Why.{Why}
 pub use Rattle.lossy_link.proofs.Outcomes.{one_outcome}
 pub use Rattle.lossy_link.specs.Fates.{PlanView}
 pub use Rattle.lossy_link.specs.Outcome.{Outcome, bad, good}
-pub use Rattle.lossy_link.specs.Plans.{HasOutcome, IsFault, IsFirstBad, IsPlanOf, a_value, no_text, size_limit, too_long}
+pub use Rattle.lossy_link.specs.Plans.{HasOutcome, IsFault, IsFirstBad, IsPlanOf, size_limit}
 pub use Rattle.lossy_link.specs.declared.bad_plan.Field.{Field}
 pub use Rattle.lossy_link.specs.declared.plan.DiskKind.{DiskKind}
 pub use Rattle.lossy_link.specs.declared.plan.DiskKind.TheVariants.{Epoch, Output}
@@ -61,7 +60,7 @@ pub use Rattle.photon_cli.specs.Drill.{Drills, IsBadIn, IsDrilled, SparesNodes}
 pub use Rattle.photon_cli.specs.Ends.{AreObeyed, BulkEnds, DrillEnds, Ends, JoinEnds, VerifyEnds}
 pub use Rattle.photon_cli.specs.Faults.{words_status}
 pub use Rattle.photon_cli.specs.Join.{AreLogs, AreValid, BeginsJoin, HasIds, HaveIds, IsAsked, IsHeardOf, IsHistory, IsInvalid, Refuses, config_of, no_plan}
-pub use Rattle.photon_cli.specs.LogFaults.{IsBeforeLogs, IsEarly, IsFailedRead, IsLogFault, IsOfBulk, IsOfDrill, IsOfJoin, IsOfLogs, IsOfPlanOrLogs, IsOfRun, IsOfVerify, IsPast, IsPlanFault, IsRowFault, failed_read, refusal, refusal_of}
+pub use Rattle.photon_cli.specs.LogFaults.{IsBeforeLogs, IsEarly, IsFailedRead, IsLogFault, IsOfBulk, IsOfDrill, IsOfJoin, IsOfLogs, IsOfPlanOrLogs, IsOfRun, IsOfVerify, IsPast, IsPlanFault, IsRowFault, failed_read}
 pub use Rattle.photon_cli.specs.Planned.{StopsAtMost, fuse_of, is_at, is_for, is_joiners, named_by, of_joiners, place_of, planned_for, same_kind}
 pub use Rattle.photon_cli.specs.ReadLines.{AtEnd, IsStep, SoFar, WrongNext}
 pub use Rattle.photon_cli.specs.Status.{IsAnswered}
@@ -75,7 +74,6 @@ pub use Rattle.photon_cli.specs.declared.log_check.step.Step.{Step}
 pub use Rattle.photon_model.specs.EveryRun.{AfterEveryRun}
 pub use Rattle.photon_model.specs.Headline.{IsOutputOnce}
 pub use Rattle.photon_model.specs.Stores.{ReadIsChecked}
-pub use Rattle.photon_model.specs.Topology.{Store}
 pub use Rattle.registry_state.specs.Same.{same_batch}
 pub use Rattle.report_text.specs.Stream.{TookPrefix}
 pub use Rattle.run_fault.specs.Causes.{IsWelcome}
@@ -88,12 +86,12 @@ pub use Rattle.run_fault.specs.declared.fault.RunFault.{RunFault}
 pub use Rattle.run_fault.specs.declared.fault.StorePlace.{StorePlace}
 pub use Rattle.run_fault.specs.declared.fault.Unfit.{Unfit}
 pub use Rattle.site_laws.specs.StoreLaws.{HoldSameRecords, LeavesNothing, LongerStaysSound, SameIsSound}
-pub use Rattle.site_laws.specs.Stores.{AreLeft, Images, IsSoundStore}
+pub use Rattle.site_laws.specs.Stores.{Images, IsSoundStore}
 pub use Rattle.site_run.proofs.Counting.{rose_before}
 pub use Rattle.site_run.proofs.Earlier.{leaves_placed}
 pub use Rattle.site_run.proofs.Entered.{counted_more, left_before, place_welcome, sound_placed, welcome_where}
 pub use Rattle.site_run.proofs.Outing.{goes_on_through, goes_on_within, stays_goes_on}
-pub use Rattle.site_run.proofs.Refusing.{err_both, kept_are_journals}
+pub use Rattle.site_run.proofs.Refusing.{kept_are_journals}
 pub use Rattle.site_run.proofs.Planning.{all_earlier, none_of_joiners, stops_earlier}
 pub use Rattle.site_run.specs.Heard.{kinds_of}
 pub use Rattle.site_run.specs.Naming.{names_of}
@@ -122,7 +120,7 @@ pub use Rattle.std.proofs.lemmas.List.{append-nil, drop-take, drop_at, drop_more
 pub use Rattle.std.proofs.lemmas.List.Elements.{Contains-append_right, Contains-push_cases}
 pub use Rattle.std.proofs.lemmas.Result.{IfErr-weaker, IfOk-weaker, err_from_is_err_and}
 pub use Rattle.std.proofs.lemmas.Slice.Eq.{slice_eq-Decides}
-pub use Rattle.std.specs.List.{All, AllByRecursion, flat_map, list_any}
+pub use Rattle.std.specs.List.{AllByRecursion, flat_map, list_any}
 pub use Rattle.std.specs.Option.{IfSome, IsSomeAnd}
 pub use Rattle.std.specs.Result.{IfOk}
 pub use Rattle.tail_reader.specs.Buffered.{behind}

@@ -9,12 +9,11 @@ use Rattle.turn_defs.specs.Setting.{Setting}
 use Rattle.bulk_logs.specs.Bulk as logs
 use Rattle.log_records.specs.declared.report.ReportLine.{ReportLine}
 use Rattle.report_text.specs.Stream.{TookPrefix}
-use Rattle.photon_cli.specs.Join.{IsHeardOf}
+use Rattle.photon_cli.specs.Join.{IsHeardOf, config_of}
 use Rattle.site_run.specs.declared.ran.RunLog.{RunLog}
 use Rattle.command_words.specs.Words.{BulkValues}
 use Rattle.photon_cli.specs.Drill.{IsDrilled}
 use Rattle.photon_cli.specs.Words.{HasTable, IsTextOf}
-use Rattle.photon_cli.specs.declared.engine.run.TheConstants.{REPLICAS}
 
 -- a rule for a thousand packets of each link: the first of this ordinal, then one in so many
 abbrev pub rule : (first every : ℕ) → Fate → Rule
@@ -30,7 +29,7 @@ pub record IsBulkSetting (v : BulkValues) (g : Setting) : Type 0 where
   pub queries : g.queries ≡ logs.queries v.seed v.count
   pub clicks : g.clicks ≡ placed 0 (logs.clicks v.seed v.count)
   pub table : IsTextOf v.nodes.shards g.config.table
-  pub config : g.config ≡ record { horizon = logs.horizon; joiners = v.nodes.joiners; table = g.config.table; batch = v.nodes.batch; replicas = REPLICAS }
+  pub config : g.config ≡ config_of logs.horizon v.nodes g.config.table
 
 -- it was run from nothing under that plan, and this is the run's history
 pub record IsBulkRun (v : BulkValues) (log : RunLog) : Type 0 where

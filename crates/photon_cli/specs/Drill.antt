@@ -33,7 +33,7 @@ pub record IsDrilled (g : Setting) (plan : PlanView) (lines : List ReportLine) (
 -- No stop is of one of a disk's first three calls, which open it, and of each node's disks at most one call is planned to fail.
 pub record SparesNodes (v : Values) (stops : List PlanStop) : Type 0 where
   pub late : Each (λ stop. 3 ≤ stop.call) stops
-  pub few : (table : List ShardRow) (n : Node) → AllInAll (StopsAtMost v.nodes.joiners stops) (names_of (config_of v table) n) 1
+  pub few : (table : List ShardRow) (n : Node) → AllInAll (StopsAtMost v.nodes.joiners stops) (names_of (config_of v.horizon v.nodes table) n) 1
 
 -- Here told says what bytes are under a name.
 module _ (told : List ℕ → Option (List ℕ)) where

@@ -22,7 +22,7 @@ use Rattle.site_run.specs.Joined.{Joins, JoinsAfresh}
 use Rattle.site_run.specs.Left.{RunLeft}
 use Rattle.site_run.specs.Heard as site
 use Rattle.site_run.specs.declared.ran.RunLog.{RunLog}
-use Rattle.command_words.specs.Words.{Values}
+use Rattle.command_words.specs.Words.{NodeValues, Values}
 use Rattle.photon_cli.specs.Words.{HasTable, IsTextOf}
 use Rattle.photon_cli.specs.declared.engine.run.TheConstants.{REPLICAS}
 
@@ -57,13 +57,13 @@ abbrev pub HaveIds : Setting → List EventId → Type 0
 HaveIds g ids = map (λ (c : ClickRec). c.id) (map (λ (l : ClickLine). l.click) g.clicks) ≡ ids
 
 -- what all nodes are built for
-abbrev pub config_of : Values → List ShardRow → Config
-config_of v table = record { horizon = v.horizon; joiners = v.nodes.joiners; table = table; batch = v.nodes.batch; replicas = REPLICAS }
+abbrev pub config_of : (horizon : ℕ) → NodeValues → List ShardRow → Config
+config_of horizon nodes table = record { horizon = horizon; joiners = nodes.joiners; table = table; batch = nodes.batch; replicas = REPLICAS }
 
 -- The setting is what was asked: it has these numbers, the table of that text, and the records of the two logs, which are valid.
 pub record IsAsked (told : List ℕ → Option (List ℕ)) (v : Values) (g : Setting) : Type 0 where
   pub table : IsTextOf v.nodes.shards g.config.table
-  pub setting : IsSettingOf told v.queries v.clicks (config_of v g.config.table) (end_from 0 g.clicks) g
+  pub setting : IsSettingOf told v.queries v.clicks (config_of v.horizon v.nodes g.config.table) (end_from 0 g.clicks) g
 
 -- Before and after say what a stop might have left of the disks and may leave of them now; faulted is that a disk met a fault.
 module _ (told : List ℕ → Option (List ℕ)) (v : Values) (before after : Images) (faulted : Type 0) (old new : List ℕ) where

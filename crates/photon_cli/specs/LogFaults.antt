@@ -1,8 +1,6 @@
 -- Why a command gives up.
 use Rattle.std.specs.Prelude.{ℕ, ◌≡◌, ◌⊎◌, ⊤}
 use Rattle.log_records.specs.declared.why.Why.{Why}
-use Rattle.log_records.specs.declared.why.Why.TheVariants as why
-use Rattle.log_records.specs.declared.check.BadLine.{BadLine}
 use Rattle.lossy_link.specs.declared.bad_plan.Field.{Field}
 use Rattle.time_shards.specs.Text.{IsFirstBad}
 use Rattle.command_words.specs.Words.{Text}
@@ -41,14 +39,6 @@ IsPast (fault.Refused log line w) = ⊥
 IsPast fault.PlanRead = ⊥
 IsPast (fault.Reshard u) = ⊥
 IsPast _ = ⊤
-
--- the fault of a log whose check answers this
-abbrev pub refusal : LogName → ℕ → Why → RunFault
-refusal log line why.Memory = fault.Memory
-refusal log line w = fault.Refused log line w
-
-abbrev pub refusal_of : LogName → BadLine → RunFault
-refusal_of log bad = refusal log bad.line bad.why
 
 -- ---- of a drill
 
@@ -106,6 +96,7 @@ abbrev pub IsOfVerify : RunFault → Type 0
 IsOfVerify (fault.Table row) = ⊥
 IsOfVerify (fault.Plan place) = ⊥
 IsOfVerify (fault.Refused Queries line w) = ⊥
+IsOfVerify (fault.Read Queries) = ⊥
 IsOfVerify fault.PlanRead = ⊥
 IsOfVerify (fault.Reshard u) = ⊥
 IsOfVerify _ = ⊤

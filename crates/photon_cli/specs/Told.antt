@@ -51,6 +51,7 @@ module _ (told : List ℕ → Option (List ℕ)) where
   IsNamedInVerify clicks (fault.Plan place) = ⊥
   IsNamedInVerify clicks (fault.Refused Queries line w) = ⊥
   IsNamedInVerify clicks (fault.Refused Clicks line w) = IsSomeAnd (told clicks) (λ log. RefusesClick log (record { line = line; why = w }))
+  IsNamedInVerify clicks (fault.Read Queries) = ⊥
   IsNamedInVerify clicks fault.PlanRead = ⊥
   IsNamedInVerify clicks (fault.Reshard u) = ⊥
   IsNamedInVerify clicks _ = ⊤

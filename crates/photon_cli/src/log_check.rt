@@ -3,4 +3,5 @@ mod check;
 mod lines;
 mod step;
 
-pub use check::{CheckFault, CheckedLog, check_click_log, check_query_log};
+pub use check::{CheckFault, check_log};
+pub use lines::Lines;

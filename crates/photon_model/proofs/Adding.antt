@@ -1,14 +1,13 @@
 -- A row behind a table's rows, where nothing that a replica accepted forbids its start: no settled id changes its shard.
-use Rattle.std.proofs.Common.{◌≡◌, ◌⊎◌, inl, inr, ⊎_elim, ℕ, zero, suc, ◌+◌, ◌%◌, ◌<◌, ◌≤◌, Bool, List, [], ◌∷◌, map, Some, None, refl, sym, ap, ◌∙◌, subst, arith}
+use Rattle.std.proofs.Common.{◌≡◌, ◌⊎◌, inl, inr, ⊎_elim, ℕ, zero, suc, ◌+◌, ◌%◌, ◌<◌, ◌≤◌, Bool, List, [], ◌∷◌, Some, None, refl, sym, ap, ◌∙◌, subst, arith}
 use Rattle.std.specs.Prelude.{Option, is_some, nat_lt, slice_get, if◌then◌else◌}
 use Rattle.std.proofs.lemmas.Bool.{cases_lt}
 use Rattle.time_shards.specs.declared.ShardRow.{ShardRow}
 use Rattle.time_shards.proofs.Tables.{count_before}
-use Rattle.log_records.specs.Report.{distinct}
 use Rattle.log_records.specs.declared.report.ReportLine.{ReportLine}
 use Rattle.verify_pass.specs.TooSoon.{batches_in, all_batches, IsEarlier, IsBefore}
 use Rattle.verify_pass.proofs.Starting.{none_before}
-use Rattle.photon_model.proofs.Words.{EventId, Token, Ballot, Batch, Mem, IsGranted, Registered, Expired, bound_of, first_insert, holder_first, holder_granted, Click, ClickLine, M, X, U, Setting, shard, Place, BallotNote, Promised, Took as Accepted, ReplicaKept, each_at, each_from, each_more, mem_left, mem_right, journals, values_from, known_of, Known, IsWritten, IsSettled, PairRec, PairSound, DispatcherSound, DispatcherKept, IsInsertOf, InsertsOf, SoundStore, accepted_inserts, pair_of, line_by, Disks, Store, WholeSound, topology_of}
+use Rattle.photon_model.proofs.Words.{EventId, Token, Ballot, Batch, Mem, IsGranted, Registered, Expired, bound_of, first_insert, holder_first, holder_granted, M, X, U, Setting, shard, Place, BallotNote, Promised, Took as Accepted, ReplicaKept, each_at, each_from, each_more, mem_left, mem_right, journals, values_from, known_of, Known, IsWritten, IsSettled, PairRec, PairSound, DispatcherSound, DispatcherKept, IsInsertOf, InsertsOf, SoundStore, accepted_inserts, Disks, Store, WholeSound, topology_of}
 use Rattle.photon_model.specs.Journals.{decided}
 use Rattle.photon_model.specs.Report.{report}
 use Rattle.photon_model.specs.Adding.{with_row, IsFree}
@@ -107,17 +106,11 @@ module _ (g : Setting) (d : Disks) (row : ShardRow) (s : SoundStore g d) (free :
   abbrev line_in : EventId → ℕ → ReportLine
   line_in i k = line_for i (nat_lt i.micros (bound_of (decided js k))) (first_insert (decided js k) i)
 
-  late_line : (i : EventId) (k : ℕ) → row.start ≤ i.micros → line_in i k ≡ U i
-  late_line i k le = grind (arith, bound_early, first_early)
-
   line_stays : (i : EventId) → line_in i (shard longer i) ≡ line_in i (shard g i)
-  line_stays i = ⊎_elim (λ lt. ap (line_in i) (same_shard i lt)) (λ le. late_line i (shard longer i) le ∙ sym (late_line i (shard g i) le)) (cases_lt i.micros row.start)
-
-  told_stays : (i : EventId) (o : Option PairRec) → line_by longer d i o ≡ line_by g d i o
-  told_stays i o = grind (arith, line_stays)
+  line_stays i = grind (arith, same_shard, bound_early, first_early, cases_lt)
 
   pub report_stays : report longer d ≡ report g d
-  report_stays = λ k. map (λ (c : Click). told_stays c.id (pair_of g d c.id) k) (distinct (map (λ (l : ClickLine). l.click) g.clicks))
+  report_stays = grind (arith, line_stays)
 
 pub whole_stays : (g : Setting) (s : Store) (row : ShardRow) → WholeSound g s → IsFree g s.disks row.start → WholeSound (with_row g row) (record s { topology = Some (topology_of (with_row g row)) })
 whole_stays g s row w free =

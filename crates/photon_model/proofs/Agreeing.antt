@@ -1,9 +1,9 @@
 -- Each entry keeps the facts on ballots, and gives what the other facts need of Paxos; so all facts hold after every run.
-use Rattle.std.proofs.Common.{◌≡◌, ◌≢◌, ◌⊎◌, inl, inr, ⊎_elim, ℕ, zero, suc, ◌<◌, ◌≤◌, max, Bool, ◌==◌, List, [], ◌∷◌, ◌++◌, length, get_or, Some, None, refl, sym, ap, ◌∙◌, subst, arith}
+use Rattle.std.proofs.Common.{◌≡◌, ◌⊎◌, inl, inr, ⊎_elim, ℕ, zero, suc, ◌<◌, ◌≤◌, max, ◌==◌, List, [], ◌∷◌, ◌++◌, length, get_or, Some, None, refl, sym, ap, ◌∙◌, subst, arith}
 use Rattle.std.specs.Prelude.{Option, slice_get}
 use Rattle.std.proofs.lemmas.Bool.{cond-true, cond-false, eq-eqb, ne_eqb}
 use Rattle.photon_model.proofs.Worlds.{row_by}
-use Rattle.photon_model.proofs.Words.{Out, dispatcher_start, joiner_start, EventId, Token, Ballot, Insert, Batch, same_batch, at, Mem, Each, Begins, set_at, IsGranted, bound_of, holder, Setting, Checked, shard, IsJoiner, Packet, Join, Joined, Claim, Reply, Node, Dispatcher, Server, Replica, Joiner, To, Sent, Input, Start, Own, Tick, Deliver, Place, Vote, acceptance, vote_at, votes_at, votes_in, Has, Promised, Took, HasAccepted, OneChosen, agreed_one, decided_grows, BallotNote, Note, Voted, idle, land, DispatcherKept, DispatcherLive, dispatcher_turn, JoinerKept, JoinerLive, Flight, joiner_turn, ServerKept, ServerLive, land_server, server_turn, ReplicaKept, land_replica, replica_turn, each_at, mem_left, mem_right, mem_split, at_set, at_set_if, one_granted, holder_granted, holder_first, bound_stays, Addressed, journals, ReplicasSound, Offer, Votes, offer, VotesOf, VotesOfServer, VotesAgree, values_of, IsWritten, Sound, IfUp, IfOpen, known, ServerHolds, WorldHolds, World, Entry, Begin, End, Stop, Disks, disks, begun, ended, stopped, dispatcher_row, server_row, replica_row, joiner_row, sends, after, world_after, WasSent, May, IsRun, opening, decided_in, NoJoinerStops, IsBoundOk, HasBounds, IsFlying, IsResolved, IsChosenNow, PaxosGives, Cell}
+use Rattle.photon_model.proofs.Words.{Out, dispatcher_start, joiner_start, EventId, Token, Ballot, Insert, Batch, same_batch, at, Mem, Each, Begins, set_at, IsGranted, bound_of, holder, Setting, Checked, IsJoiner, Packet, Join, Joined, Claim, Reply, Node, Dispatcher, Server, Replica, Joiner, To, Sent, Input, Start, Own, Tick, Deliver, Place, Vote, acceptance, vote_at, votes_at, votes_in, Has, Promised, Took, HasAccepted, OneChosen, agreed_one, decided_grows, BallotNote, Note, Voted, idle, land, DispatcherKept, DispatcherLive, dispatcher_turn, JoinerKept, JoinerLive, Flight, joiner_turn, ServerKept, ServerLive, land_server, server_turn, ReplicaKept, land_replica, replica_turn, each_at, mem_left, mem_right, mem_split, at_set, at_set_if, one_granted, holder_granted, holder_first, bound_stays, Addressed, journals, ReplicasSound, Offer, Votes, offer, VotesOf, VotesOfServer, VotesAgree, values_of, IsWritten, Sound, IfUp, IfOpen, known, ServerHolds, WorldHolds, World, Entry, Begin, End, Stop, Disks, disks, begun, ended, stopped, dispatcher_row, server_row, replica_row, joiner_row, sends, after, world_after, WasSent, May, IsRun, opening, decided_in, NoJoinerStops, IsBoundOk, HasBounds, IsFlying, IsResolved, IsChosenNow, PaxosGives, Cell}
 use Rattle.photon_model.proofs.DispatcherRows.{each_packet as each_join}
 use Rattle.photon_model.proofs.JoinerRows.{each_packet}
 use Rattle.photon_model.specs.Journals.{decided}
@@ -78,18 +78,13 @@ module _ (g : Setting) (w : World) (offered : List Offer) (holds : BallotsHold g
     set_here : kept_then r ≡ c.kept
     set_here = ap (λ (d : Cell ReplicaKept (Unit {0})). d.kept) (cond-true (r == r) c (w.replicas r) (eq-eqb r r refl))
 
-    set_other : (k : ℕ) → k ≢ r → (kept_then k).notes ≡ (w.replicas k).kept.notes
-    set_other k ne = ap (λ (d : Cell ReplicaKept (Unit {0})). d.kept.notes) (cond-false (k == r) c (w.replicas k) (ne_eqb k r ne))
-
     within : r < length now.journals
     within = subst (λ m. r < m) (sym members) lt
 
     -- the votes are those with its note
     votes_then : (o : Option Note) → c.kept ≡ land land_replica o (w.replicas r).kept → MayNote now r o → votes g with_replica offered ≡ with_note now r o
     votes_then None e may = grind arith
-    votes_then (Some (Voted x)) e may =
-        let q = journals_noted g.config.replicas (λ k. (w.replicas k).kept) kept_then r x lt (ap (λ (k : ReplicaKept). k.notes) (set_here ∙ e)) set_other in
-        λ i. record { journals = q i; offered = offered; epochs = now.epochs }
+    votes_then (Some (Voted x)) e may = grind (arith, journals_noted, set_here, cond-false, ne_eqb)
     votes_then _ e may = absurd may
 
     agree_then : (o : Option Note) → MayNote now r o → VotesAgree (with_note now r o)

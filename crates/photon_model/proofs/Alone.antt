@@ -1,14 +1,14 @@
 -- A ballot is drawn for one place alone.
 use Rattle.std.proofs.Common.{◌≡◌, ◌⊎◌, inl, inr, ⊎_elim, ℕ, zero, suc, ◌<◌, ◌≤◌, List, [], ◌∷◌, ◌++◌, Some, None, refl, sym, ap, ◌∙◌, subst, arith}
 use Rattle.std.specs.Prelude.{Option}
-use Rattle.photon_model.proofs.Words.{Ballot, Insert, Batch, Phase, on_promise, on_accepted, Prepared as PrepareAnswer, Taken, Mem, Each, set_at, Setting, shard, Packet, Prepare, Accept, Place, Node, Dispatcher, Server, Replica, Joiner, To, Only, Sent, Input, Own, Note, Out, idle, land, ServerKept, ServerLive, ShardState, Proposal, land_server, to_from, to_replicas, replies, owns, promised, accepted, server_turn, ReplicaKept, prepared, taken, replica_gets, each_at, mem_left, mem_right, mem_split, at_set, at_set_if, some_same, none_some, Addressed, World, Entry, Begin, End, Stop, Disks, begun, ended, stopped, dispatcher_row, joiner_row, server_row, replica_row, sends, after, world_after, May, IsRun, opening, Cell}
+use Rattle.photon_model.proofs.Words.{Ballot, Insert, Batch, Phase, on_promise, on_accepted, Mem, Each, set_at, Setting, shard, Packet, Prepare, Accept, Place, Node, Dispatcher, Server, Replica, Joiner, To, Only, Sent, Input, Own, Note, Out, idle, land, ServerKept, ServerLive, ShardState, Proposal, land_server, to_from, to_replicas, replies, owns, promised, accepted, server_turn, ReplicaKept, each_at, mem_left, mem_right, mem_split, at_set, at_set_if, some_same, none_some, Addressed, World, Entry, Begin, End, Stop, Disks, begun, ended, stopped, dispatcher_row, joiner_row, server_row, replica_row, sends, after, world_after, May, IsRun, opening, Cell}
 use Rattle.photon_model.proofs.ServerRows.{next_at, current_at, replicas_each, reply_each, replies_each, tick_each, every_row}
 use Rattle.photon_model.specs.Claims.{HasSent}
 use Rattle.photon_model.specs.Alone.{Prepared, BallotsAlone}
 use Rattle.photon_model.proofs.Claiming.{addressed_sent}
 use Rattle.photon_model.proofs.Finding.{sent_addressed}
 use Rattle.photon_model.proofs.Worlds.{landed_either}
-use Rattle.photon_model.proofs.Agreeing.{IsPlain, ArePlain, dispatcher_row_plain, joiner_row_plain}
+use Rattle.photon_model.proofs.Agreeing.{ArePlain, dispatcher_row_plain, joiner_row_plain}
 
 -- a shard's proposal was prepared
 abbrev Stands : List Sent → ℕ → ShardState → Option Proposal → Type 0
@@ -117,24 +117,12 @@ AreAnswers ps = Each (λ (a : To × Packet). IsAnswer a.1) ps
 abbrev Answers : Out (Unit {0}) → Type 0
 Answers o = AreAnswers o.packets
 
-plain_answer : (p : Packet) → IsPlain p → IsAnswer p
-plain_answer p h = grind arith
-
 plain_answers : (ps : List (To × Packet)) → ArePlain ps → AreAnswers ps
 plain_answers [] h = tt
-plain_answers (p ∷ ps) h = (plain_answer p.1 h.0, plain_answers ps h.1)
-
-prepared_answer : (at : Place) (b : Ballot) (a : PrepareAnswer Batch) → IsAnswer (prepared at b a)
-prepared_answer at b a = grind arith
-
-taken_answer : (at : Place) (b : Ballot) (a : Taken) → IsAnswer (taken at b a)
-taken_answer at b a = grind arith
-
-gets_answers : (k : ReplicaKept) (from : Node) (p : Packet) → Answers (replica_gets k from p)
-gets_answers k from p = grind (arith, prepared_answer, taken_answer)
+plain_answers (p ∷ ps) h = grind (arith, plain_answers ps h.1)
 
 replica_answers : (c : Cell ReplicaKept (Unit {0})) → Answers (replica_row c)
-replica_answers c = grind (arith, gets_answers)
+replica_answers c = grind arith
 
 -- ---- the world
 

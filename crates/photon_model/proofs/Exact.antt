@@ -1,10 +1,10 @@
 -- From the empty store, at rest, the report is that of the two logs, but for missing clicks.
-use Rattle.std.proofs.Common.{◌≡◌, ◌⊎◌, inl, inr, ⊎_elim, ℕ, zero, suc, ◌*◌, ◌<◌, ◌≤◌, cond, List, [], ◌∷◌, map, Some, None, refl, sym, ap, ◌∙◌, subst, arith, lit<}
-use Rattle.std.specs.Prelude.{Option, slice_get, is_some, nat_lt}
+use Rattle.std.proofs.Common.{◌≡◌, ◌⊎◌, inl, inr, ⊎_elim, ℕ, zero, suc, ◌*◌, ◌≤◌, List, [], ◌∷◌, map, Some, None, refl, sym, ap, ◌∙◌, subst, arith, lit<}
+use Rattle.std.specs.Prelude.{Option, slice_get, nat_lt}
 use Rattle.std.specs.declared.cmp.Ordering.{Ordering}
 use Rattle.std.specs.FinMap as finite
 use Rattle.std.proofs.lemmas.Bool.{cond_both, cases_lt, ltb-true, ltb-false}
-use Rattle.photon_model.proofs.Words.{EventId, id_cmp, Token, Batch, IsGranted, bound_of, bound_at, holder, first_insert, granted_means, holder_granted, Mem, some_same, none_some, each_at, Query, Click, ClickLine, first, J, M, X, U, PairRec, Setting, Checked, first_joiner, shard, shard_below, SoundStore, PairSound, IsWritten, known_of, values_of, known, all_pairs, pair_of, line_by, line_of, unwritten_line, IsAtRest, World, Entry, Disks, disks, world_after, IsRun, opening, empty_disks, AllFactsHold, HasBounds, RestLeaves, decided_in}
+use Rattle.photon_model.proofs.Words.{EventId, id_cmp, Token, Batch, IsGranted, bound_of, bound_at, holder, first_insert, granted_means, holder_granted, Mem, some_same, none_some, each_at, Query, Click, ClickLine, first, J, M, PairRec, Setting, Checked, first_joiner, shard, shard_below, SoundStore, PairSound, IsWritten, known_of, values_of, known, all_pairs, pair_of, line_by, line_of, unwritten_line, IsAtRest, World, Entry, Disks, disks, world_after, IsRun, opening, empty_disks, AllFactsHold, HasBounds, RestLeaves, decided_in}
 use Rattle.time_shards.specs.Shards.{IsTable}
 use Rattle.log_records.specs.Report as logs
 use Rattle.log_records.proofs.Distinct.{made, made_nil, made_cons}
@@ -63,10 +63,6 @@ module _ (g : Setting) (es : List Entry) (c : Checked g) (t : IsTable g.config.t
     one_click : (x : Click) → ((y : ClickLine) × Mem y g.clicks × (y.click ≡ x)) → x.id ≡ i → x ≡ l.click
     one_click x (y, n, e) same = sym e ∙ c.no_conflict y l n m (ap (λ (z : Click). z.id) e ∙ same)
 
-    -- the report of the logs
-    logs_old : i.micros < g.config.horizon → logs.line_of g.queries g.config.horizon l.click ≡ X i
-    logs_old lt = cond_both (nat_lt i.micros g.config.horizon) (X i) (logs.pair_or_none l.click (first g.queries l.click.query)) (λ x. x ≡ X i) (λ _. refl) (λ f. let ge = ltb-false i.micros g.config.horizon f in absurd (omega arith))
-
     logs_young : g.config.horizon ≤ i.micros → (o : Option Query) → first g.queries l.click.query ≡ o → logs.line_of g.queries g.config.horizon l.click ≡ logs.pair_or_none l.click o
     logs_young le o e = grind arith
 
@@ -84,20 +80,8 @@ module _ (g : Setting) (es : List Entry) (c : Checked g) (t : IsTable g.config.t
     no_pair : pair_of g d i ≡ None → IsWritten g (known_of g d []) i → ⊥
     no_pair e (j, p, is, n, same) = not_found (all_pairs g d) i p e (to_log d (first_joiner g) (2 * g.config.joiners) j p is.0 is.1 n) same
 
-    holder_old : i.micros < g.config.horizon → holder vs i ≡ None
-    holder_old lt = cond_both (nat_lt i.micros (bound_of vs)) None (first_insert vs i) (λ o. o ≡ None) (λ _. refl) (λ f. let ge = ltb-false i.micros (bound_of vs) f in let b = bound_is in absurd (omega arith))
-
     holder_young : g.config.horizon ≤ i.micros → holder vs i ≡ first_insert vs i
     holder_young le = cond_both (nat_lt i.micros (bound_of vs)) None (first_insert vs i) (λ o. o ≡ first_insert vs i) (λ q. let lt = ltb-true i.micros (bound_of vs) q in let b = bound_is in absurd (omega arith)) (λ _. refl)
-
-    line_with : (o : Option Token) → holder vs i ≡ o → unwritten_line g d i ≡ cond (is_some o) (M i) (cond (nat_lt i.micros (bound_of vs)) (X i) (U i))
-    line_with o e = ap (λ (k : Option Token). cond (is_some k) (M i) (cond (nat_lt i.micros (bound_of vs)) (X i) (U i))) e
-
-    line_old : i.micros < g.config.horizon → unwritten_line g d i ≡ X i
-    line_old lt = line_with None (holder_old lt) ∙ cond_both (nat_lt i.micros (bound_of vs)) (X i) (U i) (λ x. x ≡ X i) (λ _. refl) (λ f. let ge = ltb-false i.micros (bound_of vs) f in let b = bound_is in absurd (omega arith))
-
-    line_young : g.config.horizon ≤ i.micros → first_insert vs i ≡ None → unwritten_line g d i ≡ U i
-    line_young le e = grind (arith, bound_is)
 
     -- a registered click has a query
     has_query : (u : Token) → g.config.horizon ≤ i.micros → first_insert vs i ≡ Some u → (q : Query) × (first g.queries l.click.query ≡ Some q)
@@ -117,14 +101,10 @@ module _ (g : Setting) (es : List Entry) (c : Checked g) (t : IsTable g.config.t
 
     young : pair_of g d i ≡ None → g.config.horizon ≤ i.micros → (o : Option Token) → first_insert vs i ≡ o → (f : Option Query) → first g.queries l.click.query ≡ f
         → (unwritten_line g d i ≡ logs.line_of g.queries g.config.horizon l.click) ⊎ ((unwritten_line g d i ≡ M i) × (g.config.horizon ≤ i.micros) × ((q : Query) × (first g.queries l.click.query ≡ Some q)))
-    young e le o k f n = grind (arith, holder_young, has_query, not_forgotten, line_young)
-
-    by_pair : (o : Option PairRec) → pair_of g d i ≡ o → (line_by g d i o ≡ logs.line_of g.queries g.config.horizon l.click) ⊎ ((line_by g d i o ≡ M i) × (g.config.horizon ≤ i.micros) × ((q : Query) × (first g.queries l.click.query ≡ Some q)))
-    by_pair (Some p) e = inl (with_pair p e)
-    by_pair None e = ⊎_elim (λ lt. inl (line_old lt ∙ sym (logs_old lt))) (λ le. young e le (first_insert vs i) refl (first g.queries l.click.query) refl) (cases_lt i.micros g.config.horizon)
+    young e le o k f n = grind (arith, holder_young, has_query, not_forgotten, bound_is)
 
     pub click_is_exact : IsExact g d l.click
-    click_is_exact = by_pair (pair_of g d i) refl
+    click_is_exact = grind (arith, with_pair, cond_both, ltb-false, bound_is, young, cases_lt)
 
 pub clicks_are_exact : AtRestFromEmpty ClicksAreExact
 clicks_are_exact g es c t r rest l m = click_is_exact g es c t r rest l m

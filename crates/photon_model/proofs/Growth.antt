@@ -1,7 +1,7 @@
 -- Facts that last where more is known: one lemma for each kind of fact.
 use Rattle.std.proofs.Common.{◌≡◌, inl, inr, ⊎_elim, ℕ, ◌≤◌, List, [], ◌∷◌, ◌++◌, Some, refl, sym, ap, ◌∙◌, subst, arith}
 use Rattle.std.specs.Prelude.{Option, slice_get}
-use Rattle.photon_model.proofs.Words.{EventId, Token, Insert, Batch, ClickLine, Mem, Each, Begins, Answer, Granted, Duplicate, TooOld, IsGranted, Setting, Packet, Joined, Claim, Reply, Promise, Accept, Chosen, Outcome, Written, Already, Late, NoQuery, Busy, PairRec, BallotNote, Ballot, DispatcherKept, DispatcherLive, Fresh, JoinerKept, JoinerLive, Flight, ServerLive, ShardState, Proposal, each_more, granted_stays, settled_stays, bound_stays, get_front, Known, values_of, IsWritten, IsSettled, DispatcherSound, PairSound, JoinerSound, IsInsertOf, InsertsOf, IsTooOld, HoldsOfOutcome, HoldsOfReply, HoldsOfBest, HoldsOf, IsFreshSound, DispatcherHolds, FlightHolds, JoinerHolds, HoldsOfProposal, ShardHolds, ServerHolds, Grows}
+use Rattle.photon_model.proofs.Words.{EventId, Token, Insert, Batch, ClickLine, Mem, Each, Begins, Answer, Granted, Duplicate, TooOld, IsGranted, Setting, Packet, Joined, Claim, Reply, Promise, Accept, Chosen, Outcome, Written, Already, Late, NoQuery, Busy, PairRec, BallotNote, DispatcherKept, DispatcherLive, JoinerKept, JoinerLive, Flight, ServerLive, ShardState, Proposal, each_more, granted_stays, settled_stays, bound_stays, get_front, Known, values_of, IsWritten, IsSettled, DispatcherSound, PairSound, JoinerSound, IsInsertOf, InsertsOf, IsTooOld, HoldsOfOutcome, HoldsOfReply, HoldsOf, DispatcherHolds, FlightHolds, JoinerHolds, HoldsOfProposal, ShardHolds, ServerHolds, Grows}
 
 pub begins_self : {A : Type 0} (xs : List A) → Begins xs xs
 begins_self xs = ([], go xs)
@@ -46,14 +46,11 @@ module _ (g : Setting) (a b : Known) (up : Grows a b) where
   inserts_last : (s : ℕ) (xs : List Insert) → Each (IsInsertOf g a s) xs → Each (IsInsertOf g b s) xs
   inserts_last s xs h = each_more (IsInsertOf g a s) (IsInsertOf g b s) xs (λ x p. (p.0, up.drawn x p.1)) h
 
-  best_lasts : (s : ℕ) (o : Option (Ballot × Batch)) → HoldsOfBest g a s o → HoldsOfBest g b s o
-  best_lasts s o h = grind (arith, inserts_last)
-
   pub packet_lasts : (p : Packet) → HoldsOf g a p → HoldsOf g b p
   packet_lasts (Joined p o) h = (h.0, h.1, outcome_lasts h.0 o h.2)
   packet_lasts (Claim x) h = up.drawn x h
   packet_lasts (Reply x r) h = reply_lasts x r h
-  packet_lasts (Promise p c o) h = best_lasts p.shard o h
+  packet_lasts (Promise p c o) h = grind (arith, inserts_last)
   packet_lasts (Accept p c v) h = inserts_last p.shard v.inserts h
   packet_lasts (Chosen p v) h = subst (λ (l : List Batch). slice_get l p.slot ≡ Some v) (sym (up.values p.shard).1) (get_front (a.values p.shard) (up.values p.shard).0 p.slot v h)
   packet_lasts _ h = h
@@ -61,11 +58,8 @@ module _ (g : Setting) (a b : Known) (up : Grows a b) where
   pub dispatcher_kept_lasts : (k : DispatcherKept) → DispatcherSound g a k → DispatcherSound g b k
   dispatcher_kept_lasts k s = record { boundary = s.boundary; starts = s.starts; once = s.once; passed = λ l m lt. ⊎_elim (λ h. inl h) (λ h. inr (settled_lasts l.click.id h)) (s.passed l m lt) }
 
-  fresh_lasts : (pending : List ℕ) (f : Fresh) → IsFreshSound g a pending f → IsFreshSound g b pending f
-  fresh_lasts pending f h = grind (arith, settled_lasts)
-
   pub dispatcher_live_lasts : (k : DispatcherKept) (l : DispatcherLive) → DispatcherHolds g a k l → DispatcherHolds g b k l
-  dispatcher_live_lasts k l h = grind (arith, each_more, fresh_lasts)
+  dispatcher_live_lasts k l h = grind (arith, each_more, settled_lasts)
 
   pub pair_lasts : (j e d : ℕ) → e ≤ d → (p : PairRec) → PairSound g a j e p → PairSound g b j d p
   pair_lasts j e d le p s = record { own_query = s.own_query; joiner = s.joiner; epoch = (let q = s.epoch in omega arith); granted = granted_lasts p.click.id p.token s.granted; drawn = up.drawn _ s.drawn }

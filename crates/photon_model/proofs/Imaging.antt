@@ -112,22 +112,13 @@ node_in g (Joiner j) k = inr (inr (inr (inr (mem_right (Joiner j) (replicas_of g
 
 -- ---- nodes that the setting doesn't have stay closed
 
-stays_outside : (g : Setting) (w : World) (e : Entry) → May g w e → (n : Node) → (IsNode g n → ⊥) → opened_at w n ≡ None → opened_at (after g w e) n ≡ None
-stays_outside g w e m n no_ h = grind (arith, own_one)
-
 outside_closed : (g : Setting) (es : List Entry) (w : World) → IsRun g w es → (n : Node) → (IsNode g n → ⊥) → opened_at w n ≡ None → opened_at (world_after g w es) n ≡ None
 outside_closed g [] w r n no_ h = h
-outside_closed g (e ∷ es) w r n no_ h = outside_closed g es (after g w e) r.1 n no_ (stays_outside g w e r.0 n no_ h)
+outside_closed g (e ∷ es) w r n no_ h = grind (arith, own_one, outside_closed g es)
 
 opening_closed : (d : Disks) (n : Node) → opened_at (opening d) n ≡ None
 opening_closed d (Dispatcher s) = refl
 opening_closed d _ = refl
-
-is_node_or_not : (g : Setting) (n : Node) → IsNode g n ⊎ (IsNode g n → ⊥)
-is_node_or_not g (Dispatcher s) = ⊎_elim (λ a. inl a) (λ a. inr (λ b. absurd (omega arith))) (cases_lt s 2)
-is_node_or_not g (Server s) = ⊎_elim (λ a. inl a) (λ a. inr (λ b. absurd (omega arith))) (cases_lt s 2)
-is_node_or_not g (Replica s) = ⊎_elim (λ a. inl a) (λ a. inr (λ b. absurd (omega arith))) (cases_lt s g.config.replicas)
-is_node_or_not g (Joiner s) = ⊎_elim (λ lt. inr (λ b. let x = b.0 in absurd (omega arith))) (λ le. ⊎_elim (λ lt. inl (le, lt)) (λ ge. inr (λ b. let x = b.1 in absurd (omega arith))) (cases_lt s (first_joiner g + 2 * g.config.joiners))) (cases_lt s (first_joiner g))
 
 module _ (g : Setting) (d : Disks) (es : List Entry) (landed : Node → Bool) (r : IsRun g (opening d) es) where
   abbrev now : World
@@ -141,7 +132,7 @@ module _ (g : Setting) (d : Disks) (es : List Entry) (landed : Node → Bool) (r
   later = world_after g now stops.entries
 
   closed : (n : Node) → opened_at later n ≡ None
-  closed n = ⊎_elim (λ is. stops.closed n (inl (node_in g n is))) (λ no_. stops.closed n (inr (outside_closed g es (opening d) r n no_ (opening_closed d n)))) (is_node_or_not g n)
+  closed n = grind (arith, stops, node_in, outside_closed, opening_closed, cases_lt)
 
   -- what they leave is the image
   is_image : disks later ≡ image g now landed

@@ -1,11 +1,7 @@
 -- The rows of a joiner: what holds of each row's case holds of every turn.
 use Rattle.std.proofs.Common.{◌≡◌, ◌⊎◌, ℕ, suc, true, false, List, [], ◌∷◌, ◌++◌, length, map, Some, None, arith}
-use Rattle.std.specs.Prelude.{find}
 use Rattle.photon_model.proofs.Finding.{find_some}
 use Rattle.photon_model.proofs.Words.{landed, Setting, site_of_joiner, Insert, Query, Click, first, Mem, Each, Answer, Packet, Join, Joined, Reply, Claim, Outcome, NoQuery, Busy, Node, Dispatcher, Server, To, Only, Input, Tick, Deliver, Out, idle, JoinerKept, JoinerLive, Flight, insert_of, is_for, in_flight, to_dispatcher, claim, next_token, answers, joiner_tick, joiner_turn}
-
-pub find_flight : (x : Insert) (fs : List Flight) (f : Flight) → find (is_for x) fs ≡ Some f → Mem f fs × (is_for x f ≡ true)
-find_flight x = find_some (is_for x)
 
 -- a flight of another insert stays
 pub landed_or : (fs : List Flight) (x : Insert) (f : Flight) → Mem f fs → Mem f (landed fs x) ⊎ (is_for x f ≡ true)
@@ -34,7 +30,7 @@ module _ (g : Setting) (j : ℕ) (k : JoinerKept) (l : JoinerLive) where
     pub is_answered : (from : Node) (x : Insert) (a : Answer) (f : Flight) → Mem f l.flight → is_for x f ≡ true → P (Deliver from (Reply x a)) (answers g j k l x f a)
 
   pub every_row : (P : Input → Out JoinerLive → Type 0) → Rows P → (i : Input) → P i (joiner_turn g j k l i)
-  every_row P h i = grind (arith, find_flight)
+  every_row P h i = grind (arith, find_some)
 
   -- the packets of a row: outcomes to its dispatcher, and inserts to its server
   module _ (P : To × Packet → Type 0) (tells : (p : ℕ) (o : Outcome) → P (Only (Dispatcher (site_of_joiner g j)), Joined p o)) (claims : (x : Insert) → P (Only (Server (site_of_joiner g j)), Claim x)) where

@@ -1,7 +1,7 @@
 -- The list of the replicas' journals, and the notes that votes stand in.
-use Rattle.std.proofs.Common.{◌≡◌, ◌≢◌, inl, inr, ⊎_elim, ℕ, zero, suc, ◌+◌, ◌<◌, ◌≤◌, Bool, List, [], ◌∷◌, ◌++◌, length, get_or, set, Some, refl, ap, ◌∙◌, subst, arith}
+use Rattle.std.proofs.Common.{◌≡◌, ◌≢◌, ⊎_elim, ℕ, zero, suc, ◌+◌, ◌<◌, ◌≤◌, List, [], ◌∷◌, ◌++◌, length, get_or, set, Some, refl, ap, ◌∙◌, subst, arith}
 use Rattle.std.specs.Prelude.{slice_get}
-use Rattle.photon_model.proofs.Words.{Ballot, Place, Vote, acceptance, vote_at, votes_at, votes_in as votes, Has, Took as Accepted, HasAccepted, JournalsAgree, IsExact, agreed_one, noted, has_split, Batch, same_batch, same_batch-true, same_batch-refl, Mem, BallotNote, ReplicaKept, values_from, journals}
+use Rattle.photon_model.proofs.Words.{Ballot, Place, Vote, acceptance, votes_at, votes_in as votes, Has, Took as Accepted, HasAccepted, JournalsAgree, IsExact, agreed_one, noted, Batch, same_batch, same_batch-true, same_batch-refl, Mem, BallotNote, ReplicaKept, values_from, journals}
 use Rattle.ballot_core.proofs.Meets.{some_member}
 use Rattle.paxos_defs.proofs.Decided.{decided_is}
 use Rattle.photon_model.specs.Journals.{decided}
@@ -49,13 +49,10 @@ module _ (n : ℕ) (f : ℕ → ReplicaKept) where
 
 -- ---- votes and notes
 
-acceptance_here : (at : Place) (x : BallotNote) (b : Ballot) (v : Batch) → Has (vote_at at x) (acceptance b v) → x ≡ Accepted at b v
-acceptance_here at x b v h = grind arith
-
 -- an acceptance stands in a note
 pub accepted_note : (at : Place) (notes : List BallotNote) (b : Ballot) (v : Batch) → HasAccepted (votes_at at notes) b v → Mem (Accepted at b v) notes
 accepted_note at [] b v h = h
-accepted_note at (x ∷ notes) b v h = ⊎_elim (λ k. inl (acceptance_here at x b v k)) (λ k. inr (accepted_note at notes b v k)) (has_split (vote_at at x) (votes_at at notes) (acceptance b v) h)
+accepted_note at (x ∷ notes) b v h = grind (arith, accepted_note at notes b v)
 
 module _ (n : ℕ) (f : ℕ → ReplicaKept) (at : Place) (r : ℕ) where
   -- in a journal of the replicas

@@ -1,7 +1,6 @@
 -- What is no run, and no sound store.
 use Rattle.std.proofs.Common.{◌≡◌, [], ◌∷◌, refl, arith}
 use Rattle.photon_model.proofs.Words.{journals}
-use Rattle.turn_defs.specs.declared.packet.Packet.TheVariants as packet
 use Rattle.paxos_defs.specs.Decided as paxos
 use Rattle.photon_model.specs.Rows.{only_bound, accepted_by}
 use Rattle.photon_model.specs.Journals.{decided}

@@ -2,7 +2,7 @@
 use Rattle.std.proofs.Common.{ℕ, cond, List, [], ◌∷◌, Some, None, arith}
 use Rattle.std.specs.Prelude.{Option, ⊤}
 use Rattle.std.proofs.lemmas.Bool.{cond_both}
-use Rattle.photon_model.proofs.Words.{Ballot, cell_after, is_below, is_same, Place, Vote, promise, vote_at, votes_at, VotesCell as Cell, blank, cell_from, Prepared, Taken, prepare_under, on_prepare, on_accept, Grant, Refuse, Batch, same_batch, Each, Setting, BallotNote, idle, Packet, Prepare, Accept, Node, Input, Deliver, ReplicaKept, cell_at, note_at, says, prepared, taken, replica_gets, replica_turn, each_append, Known, InsertsOf, HoldsOfBatch, HoldsOfBest, HoldsOf, HoldsOfInput, ReplicaKeeps}
+use Rattle.photon_model.proofs.Words.{Ballot, cell_after, is_below, is_same, Place, Vote, promise, votes_at, VotesCell as Cell, blank, cell_from, Prepared, Taken, prepare_under, on_prepare, on_accept, Grant, Refuse, Batch, same_batch, Each, Setting, BallotNote, idle, Packet, Prepare, Accept, Node, Input, Deliver, ReplicaKept, cell_at, note_at, says, prepared, taken, replica_gets, replica_turn, each_append, Known, InsertsOf, HoldsOfBatch, HoldsOfBest, HoldsOf, HoldsOfInput, ReplicaKeeps}
 
 module _ (g : Setting) (n : Known) where
   -- what a vote accepts holds
@@ -17,12 +17,9 @@ module _ (g : Setting) (n : Known) where
   IfVote s None = ⊤
   IfVote s (Some x) = OfVote s x
 
-  vote_holds : (at : Place) (x : BallotNote) → InsertsOf g n x → Each (OfVote at.shard) (vote_at at x)
-  vote_holds at x i = grind arith
-
   votes_hold : (at : Place) (xs : List BallotNote) → Each (InsertsOf g n) xs → Each (OfVote at.shard) (votes_at at xs)
   votes_hold at [] i = tt
-  votes_hold at (x ∷ xs) i = each_append (OfVote at.shard) (vote_at at x) (votes_at at xs) (vote_holds at x i.0) (votes_hold at xs i.1)
+  votes_hold at (x ∷ xs) i = grind (arith, votes_hold at xs i.1)
 
   cell_holds : (s : ℕ) (c : Cell Batch) (xs : List (Vote Batch)) → HoldsOfBest g n s c.accepted → Each (OfVote s) xs → HoldsOfBest g n s (cell_from c xs).accepted
   cell_holds s c [] h i = h

@@ -2,7 +2,7 @@
 use Rattle.std.proofs.Common.{◌≡◌, ◌≢◌, ◌⊎◌, inl, inr, ⊎_elim, ℕ, zero, suc, ◌+◌, ◌*◌, ◌<◌, ◌≤◌, true, List, [], ◌∷◌, ◌++◌, Some, None, refl, sym, ap, ◌∙◌, subst, arith}
 use Rattle.std.specs.Prelude.{Option, slice_get}
 use Rattle.std.proofs.lemmas.Bool.{cases_lt}
-use Rattle.photon_model.proofs.Words.{ReplicaKept, EventId, Token, Insert, same_id, Query, ClickLine, at, end_from, Follow, first, Mem, Each, EachPair, set_at, IsGranted, Expired, Setting, first_joiner, Checked, IsJoiner, IsJoin, Dispatcher, Server, Replica, Joiner, PairRec, Input, Note, land, DispatcherLive, land_dispatcher, dispatcher_at_rest, JoinerLive, land_joiner, land_server, land_replica, each_at, some_same, none_some, at_own, within_end, one_granted, UpWith, Known, values_of, IsWritten, IsMissing, IsDrained, DispatcherSound, PairSound, InsertsOf, Sound, known, IfUp, WorldHolds, World, Entry, Begin, End, Stop, Disks, begun, ended, stopped, dispatcher_row, server_row, replica_row, joiner_row, sends, after, May, opening, extended, PaxosGives, NoJoinerStops}
+use Rattle.photon_model.proofs.Words.{ReplicaKept, EventId, Token, Insert, same_id, Query, ClickLine, at, end_from, Follow, first, Mem, Each, EachPair, set_at, IsGranted, Expired, Setting, first_joiner, Checked, IsJoiner, IsJoin, Dispatcher, Server, Replica, Joiner, PairRec, Input, Note, land, land_dispatcher, dispatcher_at_rest, JoinerLive, land_joiner, land_server, land_replica, each_at, some_same, none_some, at_own, within_end, one_granted, UpWith, Known, values_of, IsWritten, IsMissing, IsDrained, DispatcherSound, PairSound, InsertsOf, Sound, known, IfUp, WorldHolds, World, Entry, Begin, End, Stop, Disks, begun, ended, stopped, dispatcher_row, server_row, replica_row, joiner_row, sends, after, May, opening, extended, PaxosGives, NoJoinerStops}
 use Rattle.photon_model.proofs.Growth.{joiner_kept_lasts, joiner_live_lasts}
 use Rattle.photon_model.proofs.Joining.{grows_extended}
 use Rattle.photon_model.proofs.Fates.{Fates, fates_decided, fates_begun, fates_ended}
@@ -126,9 +126,6 @@ last_boundary : (ls : List ClickLine) (p e : ℕ) → Follow p ls → ((e ≡ p)
 last_boundary [] p e f h n = grind arith
 last_boundary (x ∷ ls) p e f b n = grind (arith, last_boundary ls x.end_ e f.2)
 
-pub rest_is_drained : (g : Setting) (w : World) (drawn : List Insert) → Checked g → WorldHolds g w drawn → (s : ℕ) (l : DispatcherLive) → s < 2 → (w.dispatchers s).live ≡ Some l → l.ended ≡ true → l.fresh ≡ [] → l.due ≡ [] → l.trying ≡ [] → IsDrained g (w.dispatchers s).kept
-rest_is_drained g w drawn c h s l lt up ended_ fresh due trying = grind (arith, last_boundary)
-
 at_place : (ps : List PairRec) (k : ℕ) (p : PairRec) → slice_get ps k ≡ Some p → Mem p ps
 at_place [] k p e = none_some p e
 at_place (x ∷ ps) zero p e = inl (some_same x p e)
@@ -153,13 +150,5 @@ written_once g w drawn h i j k m p q a b u v e =
 pub own_query : (g : Setting) (w : World) (drawn : List Insert) → WorldHolds g w drawn → (j k : ℕ) (p : PairRec) → IsJoiner g j → PairAt w j k p → IsJoin g p.click p.query
 own_query g w drawn h j k p a u = (each_at (PairSound g (known g w drawn) j (w.joiners j).kept.epoch) (w.joiners j).kept.pairs (h.joiners j a).kept.pairs p (at_place (w.joiners j).kept.pairs k p u)).own_query
 
--- a dispatcher at rest has no line, due position or trial left
-rest_parts : (l : DispatcherLive) → dispatcher_at_rest l ≡ true → (l.ended ≡ true) × (l.fresh ≡ []) × (l.due ≡ []) × (l.trying ≡ [])
-rest_parts l e = grind arith
-
 pub rest_drained : (g : Setting) (w : World) (drawn : List Insert) → Checked g → WorldHolds g w drawn → (s : ℕ) → s < 2 → UpWith (λ l. dispatcher_at_rest l ≡ true) (w.dispatchers s).live → IsDrained g (w.dispatchers s).kept
-rest_drained g w drawn c h s lt = go (w.dispatchers s).live refl
-  where
-    go : (o : Option DispatcherLive) → (w.dispatchers s).live ≡ o → UpWith (λ l. dispatcher_at_rest l ≡ true) o → IsDrained g (w.dispatchers s).kept
-    go None e u = absurd u
-    go (Some l) e u = let p = rest_parts l u in rest_is_drained g w drawn c h s l lt e p.0 p.1 p.2 p.3
+rest_drained g w drawn c h s lt = grind (arith, last_boundary)

@@ -1,8 +1,8 @@
 -- The rows of a server: what holds of each row's case holds of every turn.
-use Rattle.std.proofs.Common.{◌≡◌, ℕ, zero, suc, ◌+◌, ◌<◌, Bool, true, false, cond, ◌&&◌, ◌==◌, nat_lt, List, [], ◌∷◌, ◌++◌, length, set, Some, None, refl, arith}
+use Rattle.std.proofs.Common.{◌≡◌, ℕ, zero, suc, ◌+◌, ◌<◌, Bool, true, false, List, [], ◌∷◌, ◌++◌, length, set, Some, None, refl, arith}
 use Rattle.std.specs.Prelude.{Option}
 use Rattle.std.proofs.lemmas.Bool.{cond_both, eqb-true, and_parts}
-use Rattle.photon_model.proofs.Words.{Setting, shard, shards, Ballot, Batch, Insert, Place, Answer, replay, Phase, on_promise, on_accepted, Promising, Accepting, Ended, Mem, Each, Packet, Claim, Reply, Prepare, Promise, Nack, Accept, Accepted, Chosen, Node, Replica, Joiner, To, Only, Input, Own, Tick, Deliver, Out, idle, is_next, ServerKept, ServerLive, ShardState, Proposal, to_from, to_replicas, is_below_limit, may_propose, is_current, is_own_joiner, reply, replies, with_shard, learns, owns, server_own, promised, accepted, nacked, gets_promise, gets_accepted, gets_nack, of_phase, again, all_again, server_tick, from_replica, server_gets, server_turn, option_both, each_append, higher, value_for, is_new, is_most, nobody, with_promise, with_acceptance}
+use Rattle.photon_model.proofs.Words.{Setting, shard, shards, Ballot, Batch, Insert, Place, Answer, replay, Phase, on_promise, on_accepted, Promising, Accepting, Ended, Mem, Each, Packet, Claim, Reply, Prepare, Promise, Nack, Accept, Accepted, Chosen, Node, Replica, Joiner, To, Only, Input, Own, Tick, Deliver, Out, idle, ServerKept, ServerLive, ShardState, Proposal, to_from, to_replicas, may_propose, is_current, is_own_joiner, reply, replies, with_shard, learns, owns, server_own, promised, accepted, nacked, of_phase, again, all_again, server_tick, from_replica, server_gets, server_turn, option_both, each_append, higher, value_for, is_new, is_most, nobody, with_promise, with_acceptance}
 use Rattle.photon_model.proofs.Finding.{first_is}
 
 -- the next place of a shard
@@ -67,21 +67,15 @@ module _ (g : Setting) (site : ℕ) (k : ServerKept) (l : ServerLive) where
     own : P Own (server_own g site k l)
     own = grind (arith, first_is)
 
-    -- the packet is current, or the server is idle
-    if_so : (i : Input) (b : Bool) (x : Out ServerLive) → (b ≡ true → P i x) → P i (cond b x (idle l))
-    if_so i b x f = cond_both b x (idle l) (P i) f (λ _. h.idles i)
-
     heard : (r : ℕ) (p : Packet) → P (Deliver (Replica r) p) (from_replica g site k l r p)
-    heard r (Promise at b o) = option_both (l.shards at.shard).proposal (gets_promise g site k l r at b o (l.shards at.shard)) (P (Deliver (Replica r) (Promise at b o))) (λ p e. if_so _ _ _ (λ c. h.promises r at b o p e c)) (λ _. h.idles _)
-    heard r (Accepted at b) = option_both (l.shards at.shard).proposal (gets_accepted g site k l r at b (l.shards at.shard)) (P (Deliver (Replica r) (Accepted at b))) (λ p e. if_so _ _ _ (λ c. h.accepts r at b p e c)) (λ _. h.idles _)
-    heard r (Nack at b above) = option_both (l.shards at.shard).proposal (gets_nack g site k l at b above (l.shards at.shard)) (P (Deliver (Replica r) (Nack at b above))) (λ p e. if_so _ _ _ (λ c. h.refuses r at b above p e c)) (λ _. h.idles _)
+    heard r (Promise at b o) = grind (arith, cond_both)
+    heard r (Accepted at b) = grind (arith, cond_both)
+    heard r (Nack at b above) = grind (arith, cond_both)
     heard r p = h.idles (Deliver (Replica r) p)
 
     gets : (from : Node) (p : Packet) → P (Deliver from p) (server_gets g site k l from p)
     gets from (Claim x) = grind arith
-    gets from (Chosen at v) =
-        if_so _ (is_next g at (l.shards at.shard) && is_below_limit at.slot) _
-        (λ t. h.learns_of from at v (eqb-true at.slot (length (l.shards at.shard).learned) (and_parts (nat_lt at.shard (shards g)) (at.slot == length (l.shards at.shard).learned) (and_parts (is_next g at (l.shards at.shard)) (is_below_limit at.slot) t).0).1))
+    gets from (Chosen at v) = grind (arith, cond_both, eqb-true, and_parts)
     gets (Replica r) p = heard r p
     gets from p = h.idles (Deliver from p)
 

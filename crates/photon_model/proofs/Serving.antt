@@ -1,7 +1,7 @@
 -- Each row of a registry server keeps its facts.
 use Rattle.std.proofs.Common.{◌≡◌, ℕ, zero, suc, List, [], ◌∷◌, ◌++◌, length, take, Some, None, refl, sym, ap, subst, arith}
 use Rattle.std.specs.Prelude.{Option, slice_get}
-use Rattle.photon_model.proofs.Words.{goes_on, each_at, Ballot, Insert, Batch, higher, value_for, Phase, on_promise, on_accepted, Each, Begins, Answer, Granted, Duplicate, TooOld, replay, Setting, shard, Packet, Prepare, Accept, Place, To, Input, ServerKept, ServerLive, ShardState, Proposal, replies, unanswered, learns, with_shard, promised, accepted, server_turn, server_start, some_same, none_some, each_append, at_set, Replays, replay_means, granted_stays, bound_stays, Known, values_of, IsInsertOf, HoldsOfReply, HoldsOfBatch, HoldsOfBest, HoldsOfPhase, HoldsOf, HoldsOfInput, HoldsOfProposal, ShardHolds, ServerHolds, PacketsHold, ServerKeeps, IsChosenNow}
+use Rattle.photon_model.proofs.Words.{goes_on, each_at, Ballot, Insert, Batch, Phase, on_promise, on_accepted, Each, Begins, Answer, Granted, Duplicate, TooOld, replay, Setting, shard, Packet, Prepare, Accept, Place, To, Input, ServerKept, ServerLive, ShardState, Proposal, replies, unanswered, learns, with_shard, promised, accepted, server_turn, server_start, some_same, none_some, each_append, at_set, Replays, replay_means, granted_stays, bound_stays, Known, values_of, IsInsertOf, HoldsOfReply, HoldsOfBatch, HoldsOfBest, HoldsOfPhase, HoldsOf, HoldsOfInput, HoldsOfProposal, ShardHolds, ServerHolds, PacketsHold, ServerKeeps, IsChosenNow}
 use Rattle.photon_model.proofs.ServerRows.{next_at, current_at, replicas_each, reply_each, replies_each, tick_each, every_row, higher_both, promise_cases, accept_cases}
 
 -- a list that begins another goes on with what stands there
@@ -51,18 +51,12 @@ module _ (g : Setting) (n : Known) where
       goes : (s : ℕ) (p : Proposal) (phase : Phase Batch) → HoldsOfBatch g n s p.own → HoldsOfPhase g n s phase → ServerHolds g n (goes_on g site k l s (l.shards s) p phase)
       goes s p phase own h = sets s _ (record { learned = (holds s).learned; queue = (holds s).queue; proposal = (own, h) })
 
-      value_holds : (s : ℕ) (own : Batch) (o : Option (Ballot × Batch)) → HoldsOfBatch g n s own → HoldsOfBest g n s o → HoldsOfBatch g n s (value_for own o)
-      value_holds s own o h i = grind arith
-
       abbrev OfTurn : ℕ → Phase Batch × Option Batch → Type 0
       OfTurn s (phase, None) = HoldsOfPhase g n s phase
       OfTurn s (phase, Some v) = HoldsOfPhase g n s phase × HoldsOfBatch g n s v
 
       promise_turn : (s : ℕ) (own : Batch) (phase : Phase Batch) (r : ℕ) (o : Option (Ballot × Batch)) → HoldsOfBatch g n s own → HoldsOfPhase g n s phase → HoldsOfBest g n s o → OfTurn s (on_promise own phase r o)
-      promise_turn s own phase r o h i q =
-          promise_cases own r o (λ y t. HoldsOfPhase g n s y → OfTurn s t) (λ y x. x)
-          (λ marks best most x. let v = value_holds s own (higher best o) h (higher_both (HoldsOfBest g n s) best o x q) in (v, v))
-          (λ marks best few x. higher_both (HoldsOfBest g n s) best o x q) phase i
+      promise_turn s own phase r o h i q = grind (arith, promise_cases, higher_both)
 
       promise_keeps : (at : Place) (p : Proposal) → HoldsOfBatch g n at.shard p.own → (t : Phase Batch × Option Batch) → OfTurn at.shard t → ServerKeeps g n (promised g site k l at (l.shards at.shard) p t)
       promise_keeps at p own (phase, None) i = record { live = goes at.shard p phase own i; packets = tt }

@@ -1,7 +1,7 @@
 -- The empty store, longer logs, records that stay.
 use Rattle.std.proofs.Common.{◌≡◌, inl, inr, ⊎_elim, ℕ, ◌≤◌, Bool, List, [], ◌∷◌, ◌++◌, Some, sym, subst, arith, refl}
 use Rattle.std.specs.Prelude.{find, Option}
-use Rattle.photon_model.proofs.Words.{Insert, Query, Click, ClickLine, end_from, Follow, IsBoundary, Mem, Begins, Setting, Checked, IsJoin, PairRec, BallotNote, none_some, mem_left, mem_split, each_more, Known, known_of, DispatcherSound, PairSound, DrawnSound, InsertsOf, Sound, SoundStore, accepted_inserts, World, Entry, Disks, after, world_after, Store, WholeSound, empty_disks, ReadIsChecked, IsLonger, set_at, Replica, Joiner, Note, Output, Voted, land, JoinerKept, JoinerLive, land_joiner, ReplicaKept, land_replica, at_set, Begin, End, Stop, begun, Cell}
+use Rattle.photon_model.proofs.Words.{Insert, Query, ClickLine, end_from, Follow, IsBoundary, Mem, Begins, Setting, Checked, PairRec, BallotNote, none_some, mem_left, mem_split, each_more, Known, known_of, DispatcherSound, PairSound, DrawnSound, InsertsOf, Sound, SoundStore, accepted_inserts, World, Entry, Disks, after, world_after, Store, WholeSound, empty_disks, ReadIsChecked, IsLonger, set_at, Replica, Joiner, Note, Output, Voted, land, JoinerKept, JoinerLive, land_joiner, ReplicaKept, land_replica, at_set, Begin, End, Stop, begun, Cell}
 use Rattle.turn_defs.specs.declared.config.Config.{Config}
 use Rattle.photon_model.proofs.Journals.{journal_beyond, votes_of}
 use Rattle.log_records.proofs.Places.{queries_begin, lines_begin, lines_follow}
@@ -37,9 +37,6 @@ places_after : (ls : List ClickLine) (p : ℕ) (l : ClickLine) → Follow p ls �
 places_after ls p l f m = Rattle.log_records.proofs.LineOrder.places_from ls p l f m
 
 module _ (g : Setting) (qs : List Query) (cs : List ClickLine) (config : Config) (c : Checked (longer g qs cs config)) (n : Known) where
-  join_lasts : (x : Click) (q : Query) → IsJoin g x q → IsJoin (longer g qs cs config) x q
-  join_lasts x q h = ((h.0.0, find_front _ g.clicks cs h.0.0 h.0.1, h.0.2), find_front _ g.queries qs q h.1)
-
   offset_within : (p : ℕ) → IsBoundary g.clicks p → p ≤ end_from 0 g.clicks
   offset_within p h = grind (arith, end_of, follow_front)
 
@@ -53,7 +50,7 @@ module _ (g : Setting) (qs : List Query) (cs : List ClickLine) (config : Config)
       }
 
   pair_longer : (j e : ℕ) (p : PairRec) → PairSound g n j e p → PairSound (longer g qs cs config) n j e p
-  pair_longer j e p s = record { own_query = join_lasts p.click p.query s.own_query; joiner = s.joiner; epoch = s.epoch; granted = s.granted; drawn = s.drawn }
+  pair_longer j e p s = grind (arith, find_front)
 
   drawn_longer : (epochs : ℕ → ℕ) → DrawnSound g n epochs → DrawnSound (longer g qs cs config) n epochs
   drawn_longer epochs s = record { joinable = λ x m. let h = s.joinable x m in (h.0, mem_left h.0 g.clicks cs h.1, h.2, (h.3.0, find_front _ g.queries qs h.3.0 h.3.1)); joiner = s.joiner; epoch = s.epoch; one_id = s.one_id }

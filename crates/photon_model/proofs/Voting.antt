@@ -63,11 +63,8 @@ module _ (n : Votes) (js : List (List BallotNote)) (writes : (at : Place) → Wr
   phase_written at b (Accepting v marks) h = offering_written (writes at) b v marks h
   phase_written at b Ended h = h
 
-  proposal_written : (site epoch round : ℕ) (at : Place) (o : Option Proposal) → VotesOfProposal n site epoch round at o → VotesOfProposal written site epoch round at o
-  proposal_written site epoch round at o h = grind (arith, phase_written)
-
   pub server_written : (site epoch : ℕ) (l : ServerLive) → VotesOfServer n site epoch l → VotesOfServer written site epoch l
-  server_written site epoch l h = record { rounds = h.rounds; shards = λ s. proposal_written site epoch l.round (next_place n s (l.shards s)) (l.shards s).proposal (h.shards s) }
+  server_written site epoch l h = grind (arith, phase_written)
 
 -- ---- and where values are sent
 
@@ -84,18 +81,12 @@ module _ (n : Votes) (new : List Offer) (epochs : ℕ → ℕ) (up : (s : ℕ) �
   accepted_sent : (from : Node) (at : Place) (b : Ballot) → AcceptedBy n from at b → AcceptedBy sent from at b
   accepted_sent from at b h = grind (arith, offered_sent)
 
-  promised_sent : (from : Node) (at : Place) (b : Ballot) (o : Option (Ballot × Batch)) → PromisedBy n from at b o → PromisedBy sent from at b o
-  promised_sent _ at b o h = h
-
-  nacked_sent : (from : Node) (at : Place) (b c : Ballot) → NackedBy n from at b c → NackedBy sent from at b c
-  nacked_sent _ at b c h = h
-
   pub votes_sent : (from : Node) (p : Packet) → VotesOf n from p → VotesOf sent from p
   votes_sent from (Prepare at b) h = owned_sent b h
-  votes_sent from (Promise at b o) h = promised_sent from at b o h
+  votes_sent from (Promise at b o) h = grind arith
   votes_sent from (Accept at b v) h = offered_sent at b v h
   votes_sent from (Accepted at b) h = accepted_sent from at b h
-  votes_sent from (Nack at b c) h = nacked_sent from at b c h
+  votes_sent from (Nack at b c) h = grind arith
   votes_sent from _ h = h
 
   -- none of the new values has this place and ballot

@@ -1,15 +1,11 @@
 -- A node that wants nothing does nothing by itself.
-use Rattle.std.proofs.Common.{◌≡◌, ℕ, false, refl, arith}
-use Rattle.photon_model.proofs.Words.{Setting, idle, Own, DispatcherKept, DispatcherLive, dispatcher_turn, dispatcher_wants, ServerKept, ServerLive, server_turn, server_wants}
+use Rattle.std.proofs.Common.{◌≡◌, ℕ, false, arith}
+use Rattle.photon_model.proofs.Words.{Setting, idle, Own, ServerKept, ServerLive, server_turn, server_wants}
 use Rattle.photon_model.specs.Wanting.{OwnIsWanted}
-
-module _ (g : Setting) (site : ℕ) (k : DispatcherKept) (l : DispatcherLive) where
-  dispatcher_idles : dispatcher_wants l ≡ false → dispatcher_turn g site k l Own ≡ idle l
-  dispatcher_idles h = grind arith
 
 module _ (g : Setting) (site : ℕ) (k : ServerKept) (l : ServerLive) where
   server_idles : server_wants g l ≡ false → server_turn g site k l Own ≡ idle l
   server_idles h = grind arith
 
 pub own_is_wanted : OwnIsWanted
-own_is_wanted = record { dispatcher = dispatcher_idles; server = server_idles; joiner = λ g n k l. refl; replica = λ k. refl }
+own_is_wanted = grind (arith, server_idles)

@@ -7,7 +7,7 @@ pub use Rattle.photon_model.specs.Journals.{journals, values_from}
 pub use Rattle.photon_model.specs.Keeping.{DispatcherKeeps, Grows, IsChosenNow, IsDrawing, IsFlying, IsResolved, JoinerKeeps, PacketsHold, PaxosGives, ReplicaKeeps, ServerKeeps, extended}
 pub use Rattle.photon_model.specs.Report.{all_pairs, decided_for, line_by, line_of, pair_of, pairs_from, unwritten_line}
 pub use Rattle.photon_model.specs.Rest.{BothUp, Carries, DispatcherWorks, IsAtRest, IsInterval, IsQuiet, IsWork, JoinerWorks, ServerWorks, UpWith, if_up, is_out, is_tick_of, is_unfinished, put_in, same_node, ticks_due, ticks_of, to_live}
-pub use Rattle.photon_model.specs.Runs.{Cell, KeptOf, LiveOf, at_node, land_at, row_of, start_at, turn_at, Begin, Disks, End, Entry, Fits, IsRun, IsTurn, May, MayBegin, MayStop, Stop, WasSent, World, after, begun, disks, dispatcher_row, down, ended, joiner_row, opening, replica_row, row, sends, server_ended, server_row, stopped, world_after}
+pub use Rattle.photon_model.specs.Runs.{Cell, KeptOf, LiveOf, at_node, land_at, row_of, start_at, turn_at, Begin, Disks, End, Entry, Fits, IsRun, IsTurn, May, MayBegin, MayStop, Stop, WasSent, World, after, begun, disks, dispatcher_row, down, ended, joiner_row, opening, replica_row, row, sends, server_row, stopped, world_after}
 pub use Rattle.photon_model.specs.Sound.{DispatcherSound, DrawnSound, HasNoQuery, InsertsOf, IsDrained, IsInsertOf, IsMissing, IsSettled, IsWritten, JoinerSound, Known, PairSound, Sound, SoundStore, accepted_inserts, inserts_in, inserts_of, known_of, values_of}
 pub use Rattle.photon_model.specs.Stores.{IsLonger, ReadIsChecked, RunsKeepWhole, TopologyComesFirst, empty_disks, empty_store}
 pub use Rattle.photon_model.specs.Topology.{IsBlank, Store, Topology, WholeSound, topology_of}
@@ -17,9 +17,9 @@ pub use Rattle.turn_defs.specs.Joiner.{Flight, JoinerKept, JoinerLive, answers, 
 pub use Rattle.turn_defs.specs.Nodes.{Addressed, IsNode, IsTo, NumbersAreNodes, node_count, node_number, node_of}
 pub use Rattle.turn_defs.specs.Packets.{IsPacket, packet}
 pub use Rattle.turn_defs.specs.Replica.{ReplicaKept, cell_at, land_replica, note_at, prepared, replica_gets, replica_start, replica_turn, says, taken}
-pub use Rattle.turn_defs.specs.Rows.{insert, one_batch, one_line, token, worked}
+pub use Rattle.turn_defs.specs.Rows.{worked}
 pub use Rattle.turn_defs.specs.Sent.{Sent}
-pub use Rattle.turn_defs.specs.Server.{Proposal, ServerKept, ServerLive, ShardState, accepted, again, all_again, claimed, empty_shard, first_shard, from_replica, gets_accepted, gets_nack, gets_promise, goes_on, is_below_limit, is_current, is_free, is_next, is_own_joiner, keep_if, land_server, learns, may_propose, nacked, of_phase, owns, promised, queued, replies, reply, reply_if, server_at_rest, server_gets, server_own, server_start, server_tick, server_turn, server_unfinished, server_wants, shard_unfinished, to_from, to_replicas, unanswered, with_shard}
+pub use Rattle.turn_defs.specs.Server.{Proposal, ServerKept, ServerLive, ShardState, accepted, again, all_again, claimed, empty_shard, first_shard, from_replica, gets_accepted, gets_nack, gets_promise, goes_on, is_below_limit, is_current, is_free, is_next, is_own_joiner, land_server, learns, may_propose, nacked, of_phase, owns, promised, queued, replies, reply, server_at_rest, server_gets, server_own, server_start, server_tick, server_turn, server_unfinished, server_wants, shard_unfinished, to_from, to_replicas, unanswered, with_shard}
 pub use Rattle.turn_defs.specs.Setting.{Checked, IsJoin, IsJoiner, Setting, first_joiner, shard, shards, site_of_joiner}
 pub use Rattle.turn_defs.specs.Spellings.{IsPair}
 pub use Rattle.turn_defs.specs.Turns.{BallotNote, Note, Out, Output, Park, Settle, Voted, idle, is_empty, land}
@@ -46,14 +46,14 @@ pub use Rattle.registry_state.specs.declared.Insert.{Insert}
 pub use Rattle.registry_state.specs.declared.Token.{Token}
 pub use Rattle.paxos_defs.proofs.Agreement.{agreed_one}
 pub use Rattle.paxos_defs.proofs.Facts.{Suits, accepted as accepted_chosen, answer_written, asked, asking_sent, asking_written, asks, asks_on, decided_grows, first_offer, grant_written, learns_next, note_agrees, note_writes, offer_sent, offer_written, offering_sent, offering_written, offers, offers_on, refusal_written, vote_suits}
-pub use Rattle.paxos_defs.proofs.Places.{cell_noted, has_split, noted, place_true, vote_elsewhere, vote_here, votes_noted, votes_others}
-pub use Rattle.paxos_defs.proofs.Votes.{has_append, has_last}
-pub use Rattle.paxos_defs.specs.Agreement.{HasAccepted, IsChosen, IsSafe, JournalsAgree, NeverFall, OneChosen}
+pub use Rattle.paxos_defs.proofs.Places.{cell_noted, has_split, noted, place_true, vote_here, votes_noted, votes_others}
+pub use Rattle.paxos_defs.proofs.Votes.{has_last}
+pub use Rattle.paxos_defs.specs.Agreement.{HasAccepted, IsChosen, IsSafe, JournalsAgree, OneChosen}
 pub use Rattle.paxos_defs.specs.Attempts.{Phase, is_most, is_new, nobody, on_accepted, on_promise, with_acceptance, with_promise}
 pub use Rattle.paxos_defs.specs.Attempts.Phase.{Accepting, Ended, Promising}
 pub use Rattle.paxos_defs.specs.Decided.{IsExact, decided}
 pub use Rattle.paxos_defs.specs.Facts.{IsAnswered, IsAsking, IsGrant, IsOffer, IsOffering, IsUnheard, Writes}
-pub use Rattle.paxos_defs.specs.Notes.{Cell as VotesCell, Has, Vote, acceptance, blank, cell_after, cell_from, cell_of, is_place, note_from, note_of, promise, vote_at, votes as votes_in, votes_at}
+pub use Rattle.paxos_defs.specs.Notes.{Cell as VotesCell, Has, Vote, acceptance, blank, cell_after, cell_from, cell_of, is_place, note_of, promise, vote_at, votes as votes_in, votes_at}
 pub use Rattle.paxos_defs.specs.Notes.Note.{Accepted as Took, Promised}
 pub use Rattle.paxos_defs.specs.Turns.{Prepared, Taken, accept_under, higher, is_accepted, on_accept, on_prepare, prepare_under, value_for, vote_anew}
 pub use Rattle.paxos_defs.specs.Turns.Prepared.{Grant, Refuse}
@@ -72,4 +72,4 @@ pub use Rattle.ballot_core.specs.declared.Ballot.{Ballot}
 pub use Rattle.event_id.specs.EventId.{id_cmp, is_same as same_id}
 pub use Rattle.event_id.specs.declared.id.EventId.{EventId}
 pub use Rattle.list_words.proofs.Lists.{at_set, at_set_if, clash, distinct_push, distinct_without, each_append, each_at, each_from, each_more, has_push-false, has_push-left, has_push-or, has_push-right, has_without, has_without-false, has_without-self, has_without-true, mem_left, mem_right, mem_split, none_some, option_both, pairs_push, some_same}
-pub use Rattle.list_words.specs.Lists.{Begins, Distinct, Each, EachPair, Mem, has, set_at, without}
+pub use Rattle.list_words.specs.Lists.{Begins, Each, EachPair, Mem, has, set_at, without}

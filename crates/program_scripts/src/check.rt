@@ -1,7 +1,7 @@
 // The checks of logs, as streams and in memory.
 use event_id::EventId;
-use log_records::{BadLine, check_clicks, check_queries, read_click};
-use photon_cli::log_check::{CheckFault, check_click_log, check_query_log};
+use log_records::{BadLine, ClickRec, QueryRec, check_clicks, check_queries, read_click};
+use photon_cli::log_check::{CheckFault, check_log};
 use script_lines::{ShortLog, Stop, Words};
 use std::alloc::Global;
 
@@ -14,15 +14,15 @@ pub fn check(alloc: Global, bytes: Vec<u8>, words: &mut Words<'_>) -> Result<Str
         "queries" if is_whole => lines_told(alloc, in_memory(check_queries(alloc, &bytes))),
         "clicks" if is_whole => clicks_in_memory(alloc, &bytes),
         "queries" => {
-            let (log, checked) = check_query_log(alloc, ShortLog::new(alloc, bytes, words)?);
-            drop(log);
-            lines_told(alloc, checked)
+            let log = ShortLog::new(alloc, bytes, words)?;
+            let (_, checked) = check_log::<QueryRec, ShortLog>(alloc, log, false);
+            lines_told(alloc, checked.map(|lines| lines.count))
         }
         "clicks" => {
-            let (log, checked) = check_click_log(alloc, ShortLog::new(alloc, bytes, words)?);
-            drop(log);
+            let log = ShortLog::new(alloc, bytes, words)?;
+            let (_, checked) = check_log::<ClickRec, ShortLog>(alloc, log, true);
             match checked {
-                Ok(checked) => clicks_told(alloc, &checked.ids, checked.lines_end),
+                Ok(lines) => clicks_told(alloc, &lines.ids, lines.end),
                 Err(fault) => fault_told(alloc, fault),
             }
         }

@@ -4,11 +4,12 @@ use mem_outside::{MemFile, MemSource};
 use script_lines::Stop;
 use std::alloc::Global;
 
-/// The text that was gathered, and the files, the newest first.
+/// The text that was gathered, the files, the newest first, and which openings of a run fail, from 0.
 #[derive(Drop)]
 pub struct Logs {
     alloc: Global,
     pub text: Vec<u8>,
+    pub opens: Vec<u64>,
     files: Vec<MemFile>,
 }
 
@@ -17,6 +18,7 @@ impl Logs {
         Logs {
             alloc,
             text: Vec::new(alloc),
+            opens: Vec::new(alloc),
             files: Vec::new(alloc),
         }
     }
@@ -63,6 +65,6 @@ impl Logs {
                 failing: file.failing.to_vec(self.alloc)?,
             })?;
         }
-        Ok(MemSource::new(files))
+        Ok(MemSource::new(files, self.opens.to_vec(self.alloc)?))
     }
 }

@@ -1,7 +1,7 @@
 // Texts of packets and of records.
 use ballot_core::Ballot;
 use log_records::ClickRec;
-use packet_codec::{Field, Outcome, Packet, decode};
+use packet_codec::{Field, Origin, Outcome, Packet, decode};
 use paxos_acceptor::ReplicaNote;
 use paxos_defs::Place;
 use registry_state::{Answer, Insert};
@@ -11,7 +11,7 @@ use std::alloc::Global;
 
 /// A packet's text: its kind and its fields, a click's text left out.
 pub fn told_packet(alloc: Global, bytes: &[u8]) -> Result<String, Stop> {
-    match decode(alloc, bytes).map_err(|_| Stop::Words)? {
+    match decode(Origin::new(alloc), bytes).map_err(|_| Stop::Words)? {
         Packet::Join { position, click } => {
             let (id, query) = (told_id(alloc, click.id)?, told_id(alloc, click.query)?);
             Ok(format!(in alloc; "Join {position} {id} {query}")?)
@@ -90,11 +90,11 @@ pub fn told_record(alloc: Global, record: &[u8]) -> Result<String, Stop> {
         4 => "park",
         5 => "settle",
         6 => {
-            let (click, _) = ClickRec::read(alloc, rest).map_err(|_| Stop::Words)?;
+            let (click, _) = ClickRec::read(Origin::new(alloc), rest).map_err(|_| Stop::Words)?;
             return Ok(format!(in alloc; "pair {}", told_id(alloc, click.id)?)?);
         }
         _ => {
-            let (note, _) = ReplicaNote::read(alloc, record).map_err(|_| Stop::Words)?;
+            let (note, _) = ReplicaNote::read(Origin::new(alloc), record).map_err(|_| Stop::Words)?;
             return told_note(alloc, &note);
         }
     };

@@ -39,6 +39,10 @@ impl Stage {
             "reads" => self
                 .logs
                 .fail_reads(words.word()?, words.numbers(self.alloc)?),
+            "opens" => {
+                self.logs.opens = words.numbers(self.alloc)?;
+                Ok(())
+            }
             "plan" => {
                 let plan = self.logs.plan()?;
                 self.disks.set_plan(&plan, words.number()?)

@@ -2,7 +2,7 @@
 use Rattle.std.proofs.Common.{◌≡◌, ◌⊎◌, inl, inr, cond, Some, None, refl, ap, arith}
 use Rattle.std.specs.Prelude.{Option}
 use Rattle.std.proofs.lemmas.Bool.{cond_both}
-use Rattle.photon_model.proofs.Words.{Ballot, IsBelow, IsUpTo, is_below, is_same, below_true, below_false, Batch, same_batch, Place, Vote, promise, acceptance, VotesCell as Cell, Prepared, Taken, prepare_under, on_prepare, is_accepted, vote_anew, accept_under, on_accept, Grant, Refuse, Take, Decline, cell_noted, Each, land, Packet, Prepare, Nack, Accept, Node, To, Input, Deliver, ReplicaKept, cell_at, note_at, land_replica, prepared, taken, replica_turn}
+use Rattle.photon_model.proofs.Words.{Ballot, IsBelow, IsUpTo, is_below, is_same, below_true, below_false, Batch, same_batch, Place, Vote, promise, acceptance, VotesCell as Cell, Prepared, Taken, prepare_under, on_prepare, is_accepted, vote_anew, accept_under, on_accept, Grant, Refuse, Take, Decline, cell_noted, Each, land, Packet, Prepare, Nack, Accept, Node, To, Input, Deliver, ReplicaKept, cell_at, note_at, land_replica, replica_turn}
 
 -- the input asks at the place with the ballot
 abbrev pub AsksAt : Input → Place → Ballot → Type 0
@@ -73,13 +73,7 @@ module _ (k : ReplicaKept) (at : Place) where
   Says i (Accept p b v) = ⊥
   Says i _ = Unit {0}
 
-  prepared_says : (i : Input) (p : Place) (b : Ballot) → (p ≡ at → AsksAt i at b) → (t : Prepared Batch) → IsRefused (cell_at k p).promised b t → Says i (prepared p b t)
-  prepared_says i p b asks t h = grind arith
-
-  taken_says : (i : Input) (p : Place) (b : Ballot) → (p ≡ at → AsksAt i at b) → (t : Taken) → IsDeclined (cell_at k p).promised b t → Says i (taken p b t)
-  taken_says i p b asks t h = grind arith
-
   pub says : (i : Input) → Each (λ (a : To × Packet). Says i a.1) (replica_turn k i).packets
-  says (Deliver from (Prepare p b)) = (prepared_says (Deliver from (Prepare p b)) p b (prepares from p b) (on_prepare (cell_at k p) b).1 (prepare_is (cell_at k p) b (cell_at k p).promised).1, tt)
-  says (Deliver from (Accept p b v)) = (taken_says (Deliver from (Accept p b v)) p b (accepts from p b v) (on_accept same_batch (cell_at k p) b v).1 (accept_is (cell_at k p) b v (cell_at k p).promised).1, tt)
+  says (Deliver from (Prepare p b)) = grind (arith, prepares, prepare_is)
+  says (Deliver from (Accept p b v)) = grind (arith, accepts, accept_is)
   says _ = tt

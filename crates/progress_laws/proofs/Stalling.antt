@@ -1,6 +1,6 @@
 -- Where nothing is done in an interval that does not begin at rest, a slot is attempted.
 use Rattle.std.proofs.Common.{◌≡◌, inl, inr, ⊎_elim, ℕ, ◌<◌, Bool, true, false, ◌||◌, ◌&&◌, ◌==◌, List, ◌∷◌, length, Some, refl, sym, ap, ◌∙◌, subst, arith, [], None}
-use Rattle.std.specs.Prelude.{not, is_none, is_some, ◌⊎◌, Option}
+use Rattle.std.specs.Prelude.{not, is_some, ◌⊎◌, Option}
 use Rattle.std.proofs.lemmas.Bool.{true≢false, and_cases, and_from, or_parts, or_left, eq-eqb, not_from_false, not-false}
 use Rattle.time_shards.specs.Shards.{IsTable}
 use Rattle.photon_model.proofs.Words.{Mem, has, Setting, IsJoiner, shards, site_of_joiner, is_empty, DispatcherLive, Fresh, waits, first_done, has_room, dispatcher_wants, dispatcher_at_rest, JoinerLive, Flight, joiner_at_rest, ServerLive, first_shard, is_free, is_below_limit, may_propose, server_wants, server_at_rest, ShardState, IfUp, World, Entry, after, world_after, UpWith}
@@ -24,10 +24,6 @@ pub record Stalls (g : Setting) (dead : ℕ → Bool) (w : World) (es : List Ent
   pub joiners : (j : ℕ) → IsJoiner g j → UpWith (λ l. joiner_at_rest l ≡ false) (w.joiners j).live → IsLeftAt g (world_after g w es) (site_of_joiner g j)
   pub dispatchers : (s : ℕ) → s < 2 → UpWith (λ l. dispatcher_at_rest l ≡ false) (w.dispatchers s).live → IsLeftAt g (world_after g w es) s
   pub attempted : (s : ℕ) → s < 2 → (l : ServerLive) → ((world_after g w es).servers s).live ≡ Some l → (k : ℕ) → k < shards g → is_left g (l.shards k) ≡ true → IsAttempted (l.shards k)
-
--- the first number that passes a test, or none
-some_passes : (test : ℕ → Bool) (n : ℕ) → is_none (first_shard test 0 n) ≡ false → (k : ℕ) × (k < n) × (test k ≡ true)
-some_passes test n e = grind (arith, first_is)
 
 not_some : {A : Type 0} (o : Option A) → is_some o ≡ false → o ≡ None
 not_some o e = grind arith
@@ -54,7 +50,7 @@ module _ (g : Setting) (dead : ℕ → Bool) (table : IsTable g.config.table) (w
   v = world_after g w es
 
   server_left : (s : ℕ) → UpWith (λ l. server_at_rest g l ≡ false) (w.servers s).live → IsLeftAt g w s
-  server_left s u = grind (arith, some_passes)
+  server_left s u = grind (arith, first_is)
 
   joiner_flies : (j : ℕ) → IsJoiner g j → UpWith (λ l. joiner_at_rest l ≡ false) (w.joiners j).live → HasFlight g w (site_of_joiner g j)
   joiner_flies j is u = let x = up_is (λ (l : JoinerLive). joiner_at_rest l ≡ false) (w.joiners j).live u in let f = some x.0.flight x.2 in (j, x.0, f.0, is, refl, x.1, f.1)

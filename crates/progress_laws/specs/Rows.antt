@@ -3,6 +3,7 @@ use Rattle.std.specs.Prelude.{ℕ, ◌==◌, Bool, false, List, [], ◌∷◌, l
 use Rattle.ballot_core.specs.declared.Ballot.{Ballot}
 use Rattle.registry_state.specs.declared.Batch.{Batch}
 use Rattle.paxos_defs.specs.declared.Place.{Place}
+use Rattle.turn_defs.specs.Rows.{worked}
 use Rattle.turn_defs.specs.Setting.{Setting}
 use Rattle.turn_defs.specs.Turns.{Out}
 use Rattle.turn_defs.specs.declared.packet.Packet.{Packet}
@@ -50,7 +51,7 @@ pub record CarriesOnce : Type 0 where
 
 -- no clicks and no joiners; the one shard's bound is to reach 1
 abbrev pub three : Setting
-three = record { queries = []; clicks = []; config = record { horizon = 1; joiners = 0; table = (record { start = 0; count = 1 }) ∷ []; batch = 1; replicas = 3 } }
+three = record { queries = []; clicks = []; config = record worked.config { horizon = 1; joiners = 0; table = (record { start = 0; count = 1 }) ∷ []; batch = 1 } }
 
 abbrev pub all_live : ℕ → Bool
 all_live r = false

@@ -1,14 +1,10 @@
 -- The rows that look for the proposal at a place and ballot, and those that learn a value.
 use Rattle.std.proofs.Common.{◌≡◌, ℕ, ◌-◌, ◌<◌, ◌≤◌, ◌&&◌, Bool, true, false, is_some, List, [], ◌∷◌, length, Some, None, refl, sym, ap, ◌∙◌, subst, arith}
 use Rattle.std.specs.Prelude.{Option, option_map}
-use Rattle.registry_server.proofs.Words.{LAST_SLOT, cond-false, and_left, and_right, le-ltb, ne_eqb, Ballot, Batch, Place, Phase, on_promise, on_accepted, Proposer, ballot_of, own_of, phase_of, promise_turn, acceptance_turn, Packet, AcceptPacket, Chosen, Node, Server, Only, Setting, shards, idle, ServerKept, ServerLive, is_below_limit, is_next, to_replicas, accept_if, promised, accepted, gets_promise, gets_accepted, gets_chosen, setting, sent, NotLast, proposal_of, counts_promise, Gives, IsStep, IsAt, FitsAt, Out, Proposal, is_current, accept_all, current_of, learns_behind, Station, Shard, Promise, Accept, Change, Turn}
+use Rattle.registry_server.proofs.Words.{LAST_SLOT, cond-false, and_left, and_right, le-ltb, ne_eqb, Ballot, Batch, Place, Phase, on_promise, on_accepted, Proposer, ballot_of, own_of, phase_of, promise_turn, acceptance_turn, Packet, AcceptPacket, Chosen, Node, Server, Only, Setting, idle, ServerKept, ServerLive, is_below_limit, is_next, to_replicas, accept_if, promised, accepted, gets_promise, gets_accepted, gets_chosen, setting, sent, NotLast, proposal_of, counts_promise, Gives, IsStep, IsAt, FitsAt, Out, Proposal, is_current, accept_all, current_of, learns_behind, Station, Shard, Promise, Accept, Change, Turn}
 use Rattle.registry_server.specs.declared.turn.Change.TheVariants as change
 use Rattle.registry_server.proofs.Going.{current_is, is_turn, is_acceptance, accepted_value, row_some, row_none}
 use Rattle.registry_server.proofs.Rowing.{proposal_is, one_gives, same_row}
-
-none_from : (o : Option Batch) → is_some o ≡ false → o ≡ None
-none_from None e = refl
-none_from (Some v) e = absurd (cc)
 
 abbrev at_slot : ℕ → ℕ → Place
 at_slot n slot = record { shard = n; slot = slot }
@@ -45,7 +41,7 @@ module _ (g : Setting) (site : ℕ) (k : ServerKept) (l : ServerLive) (n r : ℕ
       -- one acceptance more is counted
       pub counted_gives : (from : ℕ) (turn : Turn) (items : List (Node × Packet)) → is_some (acceptance_turn p from b).1 ≡ false → IsStep turn n r items (Accept from) → sent items ≡ []
           → Gives g site l turn (gets_accepted g site k l from (at_slot n slot) b (l.shards n) (l.shards n).proposal)
-      counted_gives from turn items e is es = grind (arith, none_from, is_acceptance, same_ballots, same_row, accepted_some, is_now)
+      counted_gives from turn items e is es = grind (arith, is_acceptance, same_ballots, same_row, accepted_some, is_now)
 
       -- the value is chosen
       pub chosen_gives : (from : ℕ) (w : Batch) (turn : Turn) (items : List (Node × Packet)) → is_some (acceptance_turn p from b).1 ≡ true → ((marks : List Bool) (v : Batch) → phase_of p ≡ Phase.Accepting v marks → w ≡ v)

@@ -1,7 +1,7 @@
 -- Where the server's numbers, what it knows and the input have spellings, so have the row's packets and what it knows next.
 use Rattle.std.proofs.Common.{◌≡◌, ℕ, suc, ◌+◌, ◌^◌, ◌<◌, ◌≤◌, ◌||◌, Bool, true, List, [], ◌∷◌, ◌++◌, length, take, Option, Some, None, refl, arith}
-use Rattle.std.specs.Prelude.{nat_lt, nat_le, IfSome}
-use Rattle.registry_server.proofs.Words.{MOST_WAITING, LAST_SLOT, LAST_EPOCH, cond_both, ltb-true, and_parts, length-take, Each, each_append, at_set, EventId, same_id, Ballot, Token, Insert, Batch, Answer, Granted, Duplicate, TooOld, same_token, bound_of, first_in, first_insert, or_else, replay, replay_held, IsToken, IsInsert, IsAnswer, IsPlace, IsBallot, IsBatch, IsPrior, Place, higher, Phase, nobody, on_promise, on_accepted, Promising, Packet, Node, Joiner, Input, To, Only, IsPacket, Setting, shard, shards, Out, idle, ServerKept, ServerLive, ShardState, Proposal, empty_shard, queued, to_from, is_below_limit, may_propose, first_shard, is_current, is_own_joiner, reply, reply_if, replies, keep_if, unanswered, learns, with_shard, claimed, proposes, owns, server_own, goes_on, accept_if, promised, accepted, nacked, gets_promise, gets_accepted, gets_nack, gets_chosen, of_phase, again, all_again, server_tick, server_gets, server_turn, server_start, IsSpelledPhase, IsSpelledProposal, IsSpelledShard, IsSpelledPlan, IsSpelledLive, IsInput}
+use Rattle.std.specs.Prelude.{nat_le, IfSome}
+use Rattle.registry_server.proofs.Words.{MOST_WAITING, LAST_SLOT, LAST_EPOCH, cond_both, ltb-true, and_parts, length-take, Each, each_append, at_set, EventId, same_id, Ballot, Token, Insert, Batch, Answer, Granted, Duplicate, same_token, bound_of, first_in, first_insert, replay_held, IsToken, IsInsert, IsAnswer, IsPlace, IsBallot, IsBatch, IsPrior, Place, higher, Phase, nobody, on_promise, on_accepted, Promising, Packet, Node, Input, To, IsPacket, Setting, shards, Out, idle, ServerKept, ServerLive, ShardState, Proposal, empty_shard, queued, to_from, is_below_limit, may_propose, first_shard, is_current, reply_if, replies, unanswered, with_shard, claimed, proposes, goes_on, accept_if, promised, accepted, nacked, gets_promise, gets_accepted, gets_nack, gets_chosen, again, all_again, server_gets, server_turn, server_start, IsSpelledPhase, IsSpelledProposal, IsSpelledShard, IsSpelledPlan, IsSpelledLive, IsInput}
 use Rattle.turn_defs.specs.declared.packet.Packet.TheVariants as packet
 
 abbrev pub Sends : List (To × Packet) → Type 0
@@ -23,20 +23,13 @@ first_in_ok : (xs : List Insert) (i : EventId) → Each IsInsert xs → IfSome (
 first_in_ok [] i e = tt
 first_in_ok (x ∷ xs) i e = cond_both (same_id x.id i) (Some x.token) (first_in xs i) (λ o. IfSome o IsToken) (λ _. e.0.token) (λ _. first_in_ok xs i e.1)
 
-either_ok : (o p : Option Token) → IfSome o IsToken → IfSome p IsToken → IfSome (or_else o p) IsToken
-either_ok None p a b = b
-either_ok (Some t) p a b = a
-
 first_ok : (vs : List Batch) (i : EventId) → Each IsBatch vs → IfSome (first_insert vs i) IsToken
 first_ok [] i e = tt
-first_ok (v ∷ vs) i e = either_ok (first_in v.inserts i) (first_insert vs i) (first_in_ok v.inserts i e.0.inserts) (first_ok vs i e.1)
+first_ok (v ∷ vs) i e = grind (arith, first_in_ok, first_ok vs i e.1)
 
 held_ok : (t : Token) (o : Option Token) → IfSome o IsToken → IfSome (replay_held t o) IsAnswer
 held_ok t None is = tt
 held_ok t (Some h) is = cond_both (same_token h t) Granted (Duplicate h) IsAnswer (λ _. tt) (λ _. is)
-
-replay_ok : (vs : List Batch) (i : EventId) (t : Token) → Each IsBatch vs → IfSome (replay vs i t) IsAnswer
-replay_ok vs i t e = cond_both (nat_lt i.micros (bound_of vs)) (Some (TooOld (bound_of vs))) (replay_held t (first_insert vs i)) (λ o. IfSome o IsAnswer) (λ _. bound_ok vs e) (λ _. held_ok t (first_insert vs i) (first_ok vs i e))
 
 -- ---- proposals
 
@@ -63,30 +56,20 @@ first_is P from ℕ.zero s e = absurd (cc)
 first_is P from (suc n) s e = grind (arith, first_is P (suc from) n s)
 
 module _ (g : Setting) (site : ℕ) (plan : IsSpelledPlan g site) where
-  reply_ok : (x : Insert) (a : Answer) → IsInsert x → IsAnswer a → Sends (reply g site x a)
-  reply_ok x a ix ia = cond_both (is_own_joiner g site x.token.joiner) ((Only (Joiner x.token.joiner), packet.Reply x a) ∷ []) [] Sends (λ _. ((ix, ia), tt)) (λ _. tt)
-
   reply_if_ok : (x : Insert) (o : Option Answer) → IsInsert x → IfSome o IsAnswer → Sends (reply_if g site x o)
   reply_if_ok x None ix is = tt
-  reply_if_ok x (Some a) ix is = reply_ok x a ix is
+  reply_if_ok x (Some a) ix is = grind arith
 
   replies_ok : (vs : List Batch) (xs : List Insert) → Each IsBatch vs → Each IsInsert xs → Sends (replies g site vs xs)
   replies_ok vs [] ev ex = tt
-  replies_ok vs (x ∷ xs) ev ex = each_append (λ (p : To × Packet). IsPacket p.1) (reply_if g site x (replay vs x.id x.token)) (replies g site vs xs) (reply_if_ok x (replay vs x.id x.token) ex.0 (replay_ok vs x.id x.token ev)) (replies_ok vs xs ev ex.1)
-
-  keep_ok : (x : Insert) (o : Option Answer) (xs : List Insert) → IsInsert x → Each IsInsert xs → Each IsInsert (keep_if g site x o xs)
-  keep_ok x None xs ix e = (ix, e)
-  keep_ok x (Some a) xs ix e = e
+  replies_ok vs (x ∷ xs) ev ex = grind (arith, reply_if_ok, bound_ok, held_ok, first_ok, replies_ok vs xs ev ex.1)
 
   unanswered_ok : (vs : List Batch) (xs : List Insert) → Each IsInsert xs → Each IsInsert (unanswered g site vs xs)
   unanswered_ok vs [] e = tt
-  unanswered_ok vs (x ∷ xs) e = keep_ok x (replay vs x.id x.token) (unanswered g site vs xs) e.0 (unanswered_ok vs xs e.1)
+  unanswered_ok vs (x ∷ xs) e = grind (arith, unanswered_ok vs xs e.1)
 
   learned_ok : (st : ShardState) (v : Batch) → IsSpelledShard st → IsBatch v → Each IsBatch (st.learned ++ v ∷ [])
   learned_ok st v is iv = each_append IsBatch st.learned (v ∷ []) is.learned (iv, tt)
-
-  learns_ok : (st : ShardState) (v : Batch) → IsSpelledShard st → IsBatch v → IsSpelledShard (learns g site st v)
-  learns_ok st v is iv = record { learned = learned_ok st v is iv; queue = unanswered_ok (st.learned ++ v ∷ []) st.queue is.queue; proposal = tt }
 
   -- ---- rows
   module _ (k : ServerKept) (l : ServerLive) (live : IsSpelledLive k l) where
@@ -98,7 +81,7 @@ module _ (g : Setting) (site : ℕ) (plan : IsSpelledPlan g site) where
     set_ok s st is = record { epoch = live.epoch; round = live.round; each = at_set (λ m x. IsSpelledShard x) l.shards s st is live.each }
 
     claimed_ok : (x : Insert) (s : ℕ) (o : Option Answer) → IsInsert x → IfSome o IsAnswer → IsSpelledOut k (claimed g site k l x s (l.shards s) o)
-    claimed_ok x s (Some a) ix is = record { quiet = refl; packets = reply_ok x a ix is; live = live }
+    claimed_ok x s (Some a) ix is = grind arith
     claimed_ok x s None ix is =
         let st = l.shards s in
         cond_both (queued st.queue x.token || nat_le MOST_WAITING (length st.queue)) (idle l) (record { note = None; packets = []; live = with_shard g site k l s (record st { queue = st.queue ++ x ∷ [] }) }) (IsSpelledOut k)
@@ -138,13 +121,6 @@ module _ (g : Setting) (site : ℕ) (plan : IsSpelledPlan g site) where
         own_ok : (xs : List Insert) → Each IsInsert xs → IsBatch (record { bound = g.config.horizon; inserts = take g.config.batch xs })
         own_ok xs e = record { bound = plan.horizon; count = (let few = plan.batch in let long = length-take g.config.batch xs in omega arith); inserts = each_take g.config.batch xs e }
 
-    owns_ok : is_below_limit l.round ≡ true → (o : Option ℕ) → ((s : ℕ) → o ≡ Some s → (may_propose g (l.shards s) ≡ true) × (s < shards g)) → IsSpelledOut k (owns g site k l o)
-    owns_ok low None first = idle_ok
-    owns_ok low (Some s) first = proposes_ok s low (first s refl).0 (first s refl).1
-
-    own_row_ok : IsSpelledOut k (server_own g site k l)
-    own_row_ok = grind (arith, owns_ok, first_is)
-
     goes_on_ok : (s : ℕ) (p : Proposal) (phase : Phase Batch) → IsSpelledProposal (length (l.shards s).learned) p → IsSpelledPhase phase → IsSpelledLive k (goes_on g site k l s (l.shards s) p phase)
     goes_on_ok s p phase is ph = set_ok s (record (l.shards s) { proposal = Some (record { ballot = p.ballot; own = p.own; phase = phase }) }) (record { learned = (live.each s).learned; queue = (live.each s).queue; proposal = record { slot = is.slot; ballot = is.ballot; own = is.own; phase = ph } })
 
@@ -161,7 +137,7 @@ module _ (g : Setting) (site : ℕ) (plan : IsSpelledPlan g site) where
         (λ _. idle_ok)
 
     accepted_ok : (at : Place) (p : Proposal) (phase : Phase Batch) (o : Option Batch) → IsPlace at → IsSpelledProposal (length (l.shards at.shard).learned) p → IsSpelledPhase phase → IfSome o IsBatch → IsSpelledOut k (accepted g site k l at (l.shards at.shard) p phase o)
-    accepted_ok at p phase h ia is ph io = grind (arith, goes_on_ok, replies_ok, learned_ok, learns_ok)
+    accepted_ok at p phase h ia is ph io = grind (arith, goes_on_ok, replies_ok, learned_ok, unanswered_ok)
 
     gets_accepted_ok : (r : ℕ) (at : Place) (b : Ballot) (o : Option Proposal) → IsPlace at → IfSome o (IsSpelledProposal (length (l.shards at.shard).learned)) → IsSpelledOut k (gets_accepted g site k l r at b (l.shards at.shard) o)
     gets_accepted_ok r at b h ia is = grind (arith, idle_ok, acceptance_ok, accepted_ok)
@@ -174,27 +150,21 @@ module _ (g : Setting) (site : ℕ) (plan : IsSpelledPlan g site) where
     gets_nack_ok at b above (Some p) ib = cond_both (is_current g at b (l.shards at.shard) p) (nacked g site k l at (l.shards at.shard) above) (idle l) (IsSpelledOut k) (λ _. nacked_ok at above ib) (λ _. idle_ok)
 
     gets_chosen_ok : (at : Place) (v : Batch) → IsBatch v → IsSpelledOut k (gets_chosen g site k l at v (l.shards at.shard))
-    gets_chosen_ok at v iv = grind (arith, replies_ok, learned_ok, set_ok, learns_ok)
-
-    phase_ok : (at : Place) (b : Ballot) (phase : Phase Batch) → IsPlace at → IsBallot b → IsSpelledPhase phase → Sends (of_phase g site k l at b phase)
-    phase_ok at b h ia ib ip = grind (arith, to_ok)
+    gets_chosen_ok at v iv = grind (arith, replies_ok, learned_ok, set_ok, unanswered_ok)
 
     again_ok : (s : ℕ) (o : Option Proposal) → s < 16 → IfSome o (IsSpelledProposal (length (l.shards s).learned)) → Sends (again g site k l s (l.shards s) o)
     again_ok s None lt is = tt
-    again_ok s (Some p) lt is = phase_ok (record { shard = s; slot = length (l.shards s).learned }) p.ballot p.phase (record { shard = lt; slot = is.slot }) is.ballot is.phase
+    again_ok s (Some p) lt is = grind (arith, to_ok)
 
     all_ok : (from n : ℕ) → from + n ≤ 16 → Sends (all_again g site k l from n)
     all_ok from ℕ.zero le = tt
     all_ok from (suc n) le = each_append (λ (p : To × Packet). IsPacket p.1) (again g site k l from (l.shards from) (l.shards from).proposal) (all_again g site k l (suc from) n) (again_ok from (l.shards from).proposal (omega arith) (live.each from).proposal) (all_ok (suc from) n (omega arith))
 
-    tick_ok : IsSpelledOut k (server_tick g site k l)
-    tick_ok = grind (arith, all_ok)
-
     gets_ok : (from : Node) (p : Packet) → IsPacket p → IsSpelledOut k (server_gets g site k l from p)
-    gets_ok from h is = grind (arith, claimed_ok, replay_ok, gets_chosen_ok, gets_promise_ok, gets_accepted_ok, gets_nack_ok)
+    gets_ok from h is = grind (arith, claimed_ok, bound_ok, held_ok, first_ok, gets_chosen_ok, gets_promise_ok, gets_accepted_ok, gets_nack_ok)
 
     pub turn_ok : (i : Input) → IsInput i → IsSpelledOut k (server_turn g site k l i)
-    turn_ok h is = grind (arith, own_row_ok, tick_ok, gets_ok)
+    turn_ok h is = grind (arith, idle_ok, proposes_ok, first_is, all_ok, gets_ok)
 
 pub empty_ok : IsSpelledShard empty_shard
 empty_ok = record { learned = tt; queue = tt; proposal = tt }

@@ -1,7 +1,7 @@
 -- What a core stands for, shard by shard.
-use Rattle.std.proofs.Common.{◌≡◌, ℕ, zero, suc, ◌+◌, ◌-◌, ◌<◌, ◌≤◌, ◌&&◌, Bool, true, false, List, ◌++◌, length, get_or, Some, None, refl, sym, ap, ◌∙◌, subst, arith}
+use Rattle.std.proofs.Common.{◌≡◌, ℕ, zero, suc, ◌+◌, ◌-◌, ◌<◌, ◌≤◌, Bool, true, false, List, ◌++◌, length, get_or, Some, None, refl, sym, ap, ◌∙◌, subst, arith}
 use Rattle.std.specs.Prelude.{Option}
-use Rattle.registry_server.proofs.Words.{LAST_SLOT, cond-false, cond_both, and_left, le-ltb, append-nil, append_assoc, Ballot, Insert, Batch, shard_count, Place, Packet, Node, To, Setting, shards, Out, idle, Addressed, ServerKept, ServerLive, ShardState, Proposal, first_shard, may_propose, owns, server_own, is_next, is_current, is_below_limit, gets_chosen, server_gets, again, all_again, setting, IsShard, passes, Stands, Gives, IsTurn, IsAt, number_of, proposes_if, Shard, Test, Turn, ServerCore}
+use Rattle.registry_server.proofs.Words.{LAST_SLOT, cond-false, cond_both, le-ltb, append-nil, append_assoc, Ballot, Insert, shard_count, Place, Packet, Node, To, Setting, shards, Out, idle, Addressed, ServerKept, ServerLive, ShardState, Proposal, first_shard, may_propose, owns, server_own, is_current, is_below_limit, server_gets, again, all_again, setting, IsShard, passes, Stands, Gives, IsTurn, IsAt, number_of, proposes_if, Shard, Test, Turn, ServerCore}
 use Rattle.turn_defs.specs.declared.packet.Packet.TheVariants as packet
 use Rattle.registry_server.proofs.Sending.{addressed}
 
@@ -34,19 +34,13 @@ module _ (g : Setting) (site : ℕ) (k : ServerKept) (l : ServerLive) where
 
   -- a packet about a shard that the table doesn't have
   module _ (n : ℕ) (most : shards g ≤ n) where
-    off_next : (at : Place) (st : ShardState) → at.shard ≡ n → is_next g at st ≡ false
-    off_next at st e = and_left _ _ (le-ltb at.shard (shards g) (subst (λ m. shards g ≤ m) (sym e) most))
-
     -- a row that looks for a proposal there
     off : (F : Option Proposal → Out ServerLive) (at : Place) (b : Ballot) (st : ShardState) → at.shard ≡ n → F None ≡ idle l → ((q : Proposal) → is_current g at b st q ≡ false → F (Some q) ≡ idle l) → (o : Option Proposal) → F o ≡ idle l
     off F at b st e none some None = none
-    off F at b st e none some (Some q) = some q (and_left _ _ (off_next at st e))
-
-    off_chosen : (at : Place) (v : Batch) (st : ShardState) → at.shard ≡ n → gets_chosen g site k l at v st ≡ idle l
-    off_chosen at v st e = cond-false (is_next g at st && is_below_limit at.slot) _ (idle l) (and_left _ _ (off_next at st e))
+    off F at b st e none some (Some q) = grind arith
 
     pub beyond : (from : Node) (p : Packet) → number_of g p ≡ Some n → ((x : Insert) → p ≡ packet.Insert x → n < shards g) → server_gets g site k l from p ≡ idle l
-    beyond from h e in_table = grind (arith, off_chosen)
+    beyond from h e in_table = grind arith
 
 module _ (core : ServerCore) (g : Setting) (k : ServerKept) (l : ServerLive) (h : Stands core g k l) where
   -- the setting is the core's

@@ -1,23 +1,15 @@
 -- What the tests of a shard say.
-use Rattle.std.proofs.Common.{◌≡◌, ℕ, ◌<◌, ◌==◌, true, is_none, List, [], ◌∷◌, length, Some, None, refl, sym, ap, ◌∙◌, arith}
-use Rattle.std.specs.Prelude.{Bool, Option, option_map, nat_lt}
-use Rattle.registry_server.proofs.Words.{LAST_SLOT, ne_eqb, Insert, waiting, bound_of, Proposer, Setting, is_empty, ShardState, is_free, setting, IsShard, passes, says, proposal_of, Station, Shard, Test, MayPropose}
+use Rattle.std.proofs.Common.{◌≡◌, ℕ, ◌<◌, ◌==◌, true, is_none, length, sym, ap, arith}
+use Rattle.std.specs.Prelude.{Bool, nat_lt}
+use Rattle.registry_server.proofs.Words.{LAST_SLOT, waiting, bound_of, Setting, is_empty, ShardState, is_free, setting, IsShard, passes, says, Station, Shard, Test, MayPropose}
 use Rattle.registry_server.proofs.Rowing.{queue_is, proposal_is}
-
-free_is : (o : Option Proposer) → is_none o ≡ is_free (option_map proposal_of o)
-free_is None = refl
-free_is (Some p) = refl
-
-empty_is : (xs : List Insert) → (length xs == 0) ≡ is_empty xs
-empty_is [] = refl
-empty_is (x ∷ xs) = ne_eqb (length (x ∷ xs)) 0 (λ e. omega arith)
 
 module _ (t : Station) (g : Setting) (h : Shard) (st : ShardState) (free empty : Bool) (bound : ℕ) (is : IsShard h st) (ef : free ≡ is_none h.proposal) (ee : empty ≡ (length (waiting h.queue) == 0)) (eb : bound ≡ bound_of st.learned) where
   f : free ≡ is_free st.proposal
-  f = ef ∙ free_is h.proposal ∙ ap is_free (sym (proposal_is h st is))
+  f = grind (arith, proposal_is)
 
   e : empty ≡ is_empty st.queue
-  e = ee ∙ empty_is (waiting h.queue) ∙ ap is_empty (sym (queue_is h st is))
+  e = grind (arith, queue_is)
 
   held : h.held ≡ st.held
   held = sym (ap (λ (s : ShardState). s.held) is.is)

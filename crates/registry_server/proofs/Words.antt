@@ -1,8 +1,8 @@
 -- The words of this crate's proofs: what they take from its definitions and from the crates below, under one name each.
 pub use Rattle.air_bus.specs.declared.entry.Entry.TheVariants.{Begin, End, Stop}
 pub use Rattle.air_bus.specs.declared.entry.Input.{Input as Bytes}
-pub use Rattle.ballot_core.proofs.Order.{ballots_total, same_true}
-pub use Rattle.ballot_core.specs.Ballots.{is_below, is_same}
+pub use Rattle.ballot_core.proofs.Order.{ballots_total}
+pub use Rattle.ballot_core.specs.Ballots.{is_same}
 pub use Rattle.ballot_core.specs.declared.Ballot.{Ballot}
 pub use Rattle.ballot_core.specs.declared.TheConstants.{LAST_EPOCH}
 pub use Rattle.batch_queue.proofs.Answering.{answered-append}
@@ -23,19 +23,19 @@ pub use Rattle.id_expiry.specs.declared.timed.TimedRegistry.{TimedRegistry}
 pub use Rattle.list_words.proofs.Lists.{at_set, each_append}
 pub use Rattle.list_words.specs.Lists.{Each, set_at}
 pub use Rattle.outside.specs.Disk.{Throughout}
-pub use Rattle.paxos_defs.specs.Attempts.{Phase, is_most, is_new, nobody, on_accepted, on_promise, with_acceptance, with_promise}
-pub use Rattle.paxos_defs.specs.Attempts.Phase.{Accepting, Ended, Promising}
-pub use Rattle.paxos_defs.specs.Turns.{higher, value_for}
+pub use Rattle.paxos_defs.specs.Attempts.{Phase, is_new, nobody, on_accepted, on_promise, with_acceptance}
+pub use Rattle.paxos_defs.specs.Attempts.Phase.{Accepting, Promising}
+pub use Rattle.paxos_defs.specs.Turns.{higher}
 pub use Rattle.paxos_defs.specs.declared.Place.{Place}
 pub use Rattle.paxos_proposer.specs.Proposals.{acceptance_turn, ballot_of, own_of, phase_of, promise_turn}
 pub use Rattle.paxos_proposer.specs.declared.proposer.Proposer.{Proposer}
 pub use Rattle.registry_server.specs.Cores.{Begins, Carries, CarriesStart, Gives, IsStep, IsTurn, Serves, Stands, changed, note_of, site_of}
 pub use Rattle.registry_server.specs.Kept.{kept_images}
-pub use Rattle.registry_server.specs.Node.{Holds, HoldsOr, IsNotPrepared, KeptOn, OnDisk, OnDiskOr, ServerState, StandsAt, StandsBy, is_spent_at, recorded, spent_at}
+pub use Rattle.registry_server.specs.Node.{Holds, HoldsOr, IsNotPrepared, KeptOn, OnDisk, OnDiskOr, ServerState, StandsAt, is_spent_at, recorded, spent_at}
 pub use Rattle.registry_server.specs.Registrars.{IsNextNote, IsRow, IsSpelledCore, IsSpelledTurn, Knows, KnowsAs, Makes, MayRaise, RegistrarView, ServesSite, SiteKept, landed, server_rows}
 pub use Rattle.registry_server.specs.Replies.{each_reply}
 pub use Rattle.registry_server.specs.Rowed.{FitsAt, IsAt, accept_all, current_in, current_of, learns_behind, number_of, proposes_if}
-pub use Rattle.registry_server.specs.ShardStates.{EachStands, IsShard, NotLast, counts_accepted, counts_promise, passes, proposal_of, put_last, says, stepped}
+pub use Rattle.registry_server.specs.ShardStates.{EachStands, IsShard, NotLast, counts_promise, passes, proposal_of, put_last, says, stepped}
 pub use Rattle.registry_server.specs.Spelled.{IsSpelledLive, IsSpelledPhase, IsSpelledPlan, IsSpelledProposal, IsSpelledShard}
 pub use Rattle.registry_server.specs.Stations.{request, sent, setting}
 pub use Rattle.registry_server.specs.declared.server_core.ServerCore.{ServerCore}
@@ -43,7 +43,7 @@ pub use Rattle.registry_server.specs.declared.shard.Shard.{Shard}
 pub use Rattle.registry_server.specs.declared.shard.Step.{Step}
 pub use Rattle.registry_server.specs.declared.shard.Step.TheVariants.{Accept, Learn, Promise, Propose, Queue}
 pub use Rattle.registry_server.specs.declared.shard.Test.{Test}
-pub use Rattle.registry_server.specs.declared.shard.Test.TheVariants.{IsBelowHorizon, IsUnfinished, MayPropose}
+pub use Rattle.registry_server.specs.declared.shard.Test.TheVariants.{MayPropose}
 pub use Rattle.registry_server.specs.declared.station.Station.{Station}
 pub use Rattle.registry_server.specs.declared.turn.Change.{Change}
 pub use Rattle.registry_server.specs.declared.turn.ServerInput.{ServerInput}
@@ -62,11 +62,11 @@ pub use Rattle.site_node.specs.Bytes.{AreSpelled, IsInput, IsJunk, Reads, record
 pub use Rattle.site_node.specs.States.{Fits, Leads, closes, row, row_of, written}
 pub use Rattle.site_node.specs.declared.kind.NodeFault.{NodeFault}
 pub use Rattle.turn_defs.specs.declared.config.Config.{Config}
-pub use Rattle.std.proofs.lemmas.Bool.{and_cases, and_from, and_left, and_parts, and_right, cases_eq, cond-false, cond-true, cond_both, eq-eqb, eqb-true, false_from_ne_true, false≢true, le-leb, le-ltb, leb-true, lt-ltb, ltb-true, ne_eqb, or_left, or_right, true≢false}
+pub use Rattle.std.proofs.lemmas.Bool.{and_from, and_left, and_parts, and_right, cases_eq, cond-false, cond-true, cond_both, eq-eqb, eqb-true, false_from_ne_true, le-ltb, lt-ltb, ltb-true, ne_eqb}
 pub use Rattle.std.proofs.lemmas.Cmp.{tied_itself}
 pub use Rattle.std.proofs.lemmas.List.{append-nil, append_assoc, drop_all, get_or-set_other, get_or-set_same, length-append, length-set, length-take, map-append, take_all, take_more}
 pub use Rattle.std.proofs.lemmas.List.Elements.{All-push}
-pub use Rattle.std.proofs.lemmas.Option.{cond_some, none-some, same_Some}
+pub use Rattle.std.proofs.lemmas.Option.{cond_some, none-some}
 pub use Rattle.std.proofs.lemmas.Result.{IfOk-weaker}
 pub use Rattle.std.specs.List.{cons_option}
 pub use Rattle.std.specs.Ordering.{is_eq}

@@ -1,5 +1,5 @@
 // The registry server over its disk.
-ghost use Rattle.std.specs.Prelude.{◌≡◌, ◌≤◌, true, false, None, ◌<◌, Some, Option, option_map, List, ℕ, is_some, is_err, IsTrue, IfOk, IfErr, OnOk, OnErr, OnSome, IsErrOf, ◌+◌};
+ghost use Rattle.std.specs.Prelude.{◌≡◌, ◌≤◌, true, false, None, ◌<◌, Some, Option, option_map, List, ℕ, is_some, is_err, IsTrue, IfOk, IfErr, OnOk, OnErr, OnSome, ◌+◌};
 ghost use Rattle.registry_state.specs.declared.TheConstants.{MOST_INSERTS};
 ghost use Rattle.ballot_core.specs.declared.TheConstants.{LAST_EPOCH};
 ghost use Rattle.paxos_defs.specs.declared.TheConstants.{MOST_REPLICAS};
@@ -15,7 +15,6 @@ ghost use Rattle.gate_journal.specs.Opening.{IsOpened};
 ghost use Rattle.epoch_journal.specs.Epochs.{IsLeft, Keeps};
 ghost use Rattle.turn_defs.specs.Setting.{Setting};
 ghost use Rattle.turn_defs.specs.Turns.{land};
-ghost use Rattle.turn_defs.specs.declared.node.Input.TheVariants as given;
 ghost use Rattle.site_node.specs.Bytes.{IsInput};
 ghost use Rattle.site_node.specs.States.{Fits, row_of, Leads, state_phase, Says};
 ghost use Rattle.site_node.specs.Faults.{was_shut_out, HasFailed, IsOfRestart, IsWhole, of_two};

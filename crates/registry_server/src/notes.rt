@@ -10,7 +10,7 @@ use air_bus::Payload;
 use epoch_journal::epoch_frame;
 use std::alloc::{AllocError, Global};
 
-// The record of a note, if there is one, as the bus takes it. Five bytes, by two allocations.
+// The record of a note, if there is one, as the bus takes it. Five bytes, by one allocation.
 pub(crate) fn note_record(
     alloc: Global,
     note: &Option<ServerNote>,
@@ -20,7 +20,7 @@ pub(crate) fn note_record(
     match note {
         None => Ok(None),
         Some(ServerNote::Epoch(epoch)) => {
-            let payload = Payload::new(Vec::from_slice(alloc, &epoch_frame(*epoch))?)?;
+            let payload = Payload::from_slice(alloc, &epoch_frame(*epoch))?;
             Ok(Some(payload))
         }
     }

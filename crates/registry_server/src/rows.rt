@@ -4,7 +4,7 @@ ghost use Rattle.turn_defs.specs.declared.limits.TheConstants.{LAST_SLOT};
 ghost use Rattle.registry_state.specs.LookBack.{replay};
 ghost use Rattle.turn_defs.specs.Setting.{Setting};
 ghost use Rattle.paxos_proposer.specs.Proposals.{prior_of, promise_turn};
-ghost use Rattle.turn_defs.specs.Server.{ServerKept, ServerLive, may_propose, claimed, gets_promise, gets_accepted, gets_nack, gets_chosen, server_gets, from_replica, again};
+ghost use Rattle.turn_defs.specs.Server.{ServerKept, ServerLive, claimed, gets_promise, gets_accepted, gets_nack, gets_chosen, server_gets, from_replica, again};
 ghost use Rattle.registry_server.specs.Stations.{setting, sent};
 ghost use Rattle.registry_server.specs.ShardStates.{IsShard};
 ghost use Rattle.registry_server.specs.Cores.{Gives};

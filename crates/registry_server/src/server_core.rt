@@ -25,7 +25,7 @@ pub struct ServerCore {
 }
 
 impl ServerCore {
-    ghost use Rattle.std.specs.Prelude.{◌≡◌, ◌<◌, ◌≤◌, ◌++◌, ◌∷◌, [], ℕ, length, IfOk, IfSome, Some, None, option_map};
+    ghost use Rattle.std.specs.Prelude.{◌≡◌, ◌<◌, ◌≤◌, ◌++◌, ◌∷◌, [], length, IfOk, IfSome, Some, None, option_map};
     ghost use Rattle.turn_defs.specs.declared.node.Input.{Input};
     ghost use Rattle.registry_state.specs.declared.Insert.{Insert as Claim};
     ghost use Rattle.turn_defs.specs.Setting.{Setting, shards};

@@ -15,10 +15,6 @@ pub use answers::Answers;
 use event_id::EventId;
 pub use registry::{Registry, against};
 pub use replays::{Replays, answer_each};
-
-#[cfg(test)]
-mod examples;
-
 use std::alloc::{AllocError, Global};
 use std::marker::Model;
 

@@ -9,12 +9,12 @@ pub use Rattle.list_words.specs.Lists.{Each}
 pub use Rattle.outside.proofs.Moments.{weaker}
 pub use Rattle.outside.specs.Disk.{Only, Throughout}
 pub use Rattle.packet_codec.specs.Notes.{IsNote, note, note as note_spelled}
-pub use Rattle.paxos_acceptor.specs.Cells.{cell_in, cell_with, note_by, note_for, note_view, place_of}
+pub use Rattle.paxos_acceptor.specs.Cells.{cell_in, cell_with, note_for, note_view, place_of}
 pub use Rattle.paxos_acceptor.specs.declared.acceptor.Acceptor.{Acceptor}
 pub use Rattle.paxos_acceptor.specs.declared.notes.ReplicaNote.{ReplicaNote}
 pub use Rattle.paxos_acceptor.specs.declared.notes.ReplicaNote.TheVariants.{Accepted, Promised}
 pub use Rattle.paxos_defs.proofs.Places.{cell_noted}
-pub use Rattle.paxos_defs.specs.Notes.{Cell, Vote, acceptance, note_from, promise}
+pub use Rattle.paxos_defs.specs.Notes.{Cell, Vote, acceptance, promise}
 pub use Rattle.paxos_defs.specs.Turns.{on_accept, on_prepare}
 pub use Rattle.paxos_defs.specs.declared.Place.{Place}
 pub use Rattle.registry_state.specs.Same.{same_batch}
@@ -38,7 +38,6 @@ pub use Rattle.std.proofs.lemmas.List.{append-nil, length-map, map-append, take_
 pub use Rattle.std.proofs.lemmas.List.Elements.{All-cons, All-head, All-nil, All-same, All-tail}
 pub use Rattle.std.proofs.lemmas.Result.{IfOk-weaker}
 pub use Rattle.std.specs.Result.{result_unwrap_or}
-pub use Rattle.turn_defs.specs.Nodes.{Addressed}
 pub use Rattle.turn_defs.specs.Packets.{IsPacket}
 pub use Rattle.turn_defs.specs.Replica.{ReplicaKept, accepts, cell_at, land_replica, note_at, prepared, prepares, replica_gets, replica_start, says, taken}
 pub use Rattle.turn_defs.specs.Rows.{worked}

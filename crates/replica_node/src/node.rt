@@ -1,5 +1,5 @@
 // The replica over its disk.
-ghost use Rattle.std.specs.Prelude.{◌≡◌, None, ◌≤◌, ◌+◌, false, true, Some, Option, List, ℕ, is_some, is_err, option_map, length, IsTrue, IfOk, IfErr, IfSome, OnOk, OnErr, IsErrOf};
+ghost use Rattle.std.specs.Prelude.{◌≡◌, None, ◌≤◌, ◌+◌, false, true, Some, Option, List, ℕ, is_some, is_err, option_map, length, IsTrue, IfOk, IfErr, IfSome, OnOk, OnErr};
 ghost use Rattle.gate_journal.specs.declared.journal.JournalState.TheVariants.{Ready};
 ghost use Rattle.gate_journal.specs.declared.frame.TheConstants.{MAX_PAYLOAD};
 ghost use Rattle.gate_journal.specs.Disk.{HasRoom};

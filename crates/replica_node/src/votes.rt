@@ -10,7 +10,7 @@ use gate_journal::{Record, RecordJournal};
 use packet_codec::{Field, FieldFault};
 use paxos_acceptor::ReplicaNote;
 use std::alloc::{AllocError, Global};
-use wire_core::{Bytes, Reader};
+use wire_core::{Bytes, Origin, Reader};
 
 /// A replica's notes, in the order in which they were written.
 ///
@@ -81,8 +81,8 @@ impl Record for Votes {
         Ok(Votes::none(alloc))
     }
 
-    fn take(&mut self, alloc: Global, payload: &[u8]) -> Result<bool, AllocError> {
-        match read_vote(alloc, payload)? {
+    fn take(&mut self, origin: Origin, payload: &[u8]) -> Result<bool, AllocError> {
+        match read_vote(origin, payload)? {
             Some(note) => {
                 self.notes.push(note)?;
                 Ok(true)
@@ -95,12 +95,12 @@ impl Record for Votes {
 }
 
 // The note of a record, or None where it is no note's. Linear in the record. It allocates the batch's inserts.
-fn read_vote(alloc: Global, payload: &[u8]) -> Result<Option<ReplicaNote>, AllocError>
+fn read_vote(origin: Origin, payload: &[u8]) -> Result<Option<ReplicaNote>, AllocError>
     ensures some { IfOk result (λ read. IfSome read (λ note. IsNote note × (payload.now ≡ note_spelled note))) }
     ensures none { IfOk result (λ read. IfNone read (IsNoVote payload.now)) }
 {
     let mut from = Reader::new(payload);
-    match ReplicaNote::take(alloc, &mut from) {
+    match ReplicaNote::take(origin, &mut from) {
         Ok(note) => {
             if from.rest().is_empty() {
                 Ok(Some(note))
@@ -137,5 +137,5 @@ fn note_record(alloc: Global, note: &ReplicaNote) -> Result<Payload, AllocError>
 {
     let mut bytes = Bytes::new(alloc);
     note.put(&mut bytes)?;
-    Payload::new(bytes.as_slice().to_vec(alloc)?)
+    Payload::from_slice(alloc, bytes.as_slice())
 }

@@ -4,7 +4,7 @@ use Rattle.std.proofs.Math.Seq.{take-add}
 use Rattle.std.proofs.lemmas.List.{take-take, length-take, take-append-drop, take_more}
 use Rattle.std.proofs.lemmas.Grind.{flat_map-append}
 use Rattle.std.specs.List.{flat_map}
-use Rattle.std.specs.Prelude.{true, false, Result, Ok, Err, OnOk, OnErr, is_ok}
+use Rattle.std.specs.Prelude.{true, false, Result, OnOk, OnErr, is_ok}
 use Rattle.report_text.specs.Stream.{Passed, TookPrefix}
 
 -- a sink that took a front of the bytes takes some of the rest
@@ -100,18 +100,15 @@ module _ {X : Type 0} (f : X → List ℕ) where
 
 -- what holds, holds of a call that fails
 pub on_err : {T E P : Type 0} (r : Result T E) → P → OnErr r P
-on_err (Ok x) p = tt
-on_err (Err e) p = p
+on_err h p = grind arith
 
 -- ---- a buffer that took the bytes, or had no room for them
 
 pub given_ok : {T E : Type 0} (r : Result T E) (P : Type 0) → true ≡ is_ok r → OnOk r P → P
-given_ok (Ok x) P is h = h
-given_ok (Err e) P is h = absurd (cc is)
+given_ok k e is h = grind arith
 
 pub given_err : {T E : Type 0} (r : Result T E) (P : Type 0) → false ≡ is_ok r → OnErr r P → P
-given_err (Ok x) P is h = absurd (cc is)
-given_err (Err e) P is h = h
+given_err k e is h = grind arith
 
 -- what waited went out, and the text waits, or went out too
 pub waits_now : (old buffer text mid left : List ℕ) → mid ≡ old ++ buffer → left ≡ text → Passed old (buffer ++ text) mid left

@@ -1,5 +1,5 @@
 // Writing bytes to a sink, all of them.
-ghost use Rattle.std.specs.Prelude.{◌≡◌, ◌++◌, OnOk, OnErr, IsErr, IsTrue, List, ℕ, [], length};
+ghost use Rattle.std.specs.Prelude.{◌≡◌, ◌++◌, OnOk, OnErr, IsErr, IsTrue, List, []};
 ghost use Rattle.std.specs.List.{flat_map};
 ghost use Rattle.outside.specs.Faults.{Counts};
 ghost use Rattle.report_text.specs.Stream.{Passed, TookPrefix};

@@ -1,6 +1,5 @@
 // How many lines there are of each kind.
 ghost use Rattle.std.specs.Prelude.{◌≡◌, ◌<◌, ◌^◌};
-ghost use Rattle.log_records.specs.declared.report.ReportLine.{ReportLine as Line};
 
 use log_records::ReportLine;
 

@@ -10,7 +10,7 @@ ghost use Rattle.retry_log.specs.Pending.{record_of, retries, MayCome, places_of
 ghost use Rattle.retry_log.specs.PendingLaws.{comes_next as change_comes_next, fits as change_fits, one_place};
 
 use crate::changing::{Change, make_change, put_last, read_change};
-use gate_journal::{Appends, Record, RecordJournal};
+use gate_journal::{Appends, Origin, Record, RecordJournal};
 use indexmap::IndexSet;
 use std::alloc::{AllocError, Global};
 
@@ -62,7 +62,7 @@ impl Record for Retries {
         })
     }
 
-    fn take(&mut self, _: Global, payload: &[u8]) -> Result<bool, AllocError> {
+    fn take(&mut self, _: Origin, payload: &[u8]) -> Result<bool, AllocError> {
         match read_change(payload) {
             Some(change) => match make_change(&mut self.pending, change) {
                 Ok(made) => Ok(made),

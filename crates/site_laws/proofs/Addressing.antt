@@ -2,7 +2,7 @@
 use Rattle.std.proofs.Common.{◌≡◌, ℕ, ◌+◌, ◌<◌, true, List, [], ◌∷◌, ◌++◌, Option, Some, subst, arith}
 use Rattle.std.specs.Prelude.{nat_lt, ⊤}
 use Rattle.std.proofs.lemmas.Bool.{cond_both}
-use Rattle.photon_model.proofs.Words.{Each, at, Insert, Batch, Answer, Place, Phase, on_promise, on_accepted, Packet, Node, Dispatcher, Server, Replica, Joiner, To, Only, AnyJoiner, Input, Deliver, Setting, first_joiner, site_of_joiner, IsNode, IsTo, Addressed, Out, DispatcherKept, DispatcherLive, JoinerKept, JoinerLive, ServerKept, ServerLive, ShardState, Proposal, ReplicaKept, replica_gets, dispatcher_turn, joiner_turn, server_turn, to_replicas, is_own_joiner, replies, promised, accepted}
+use Rattle.photon_model.proofs.Words.{Each, at, Insert, Batch, Answer, Place, Phase, on_promise, on_accepted, Packet, Node, Dispatcher, Server, Replica, Joiner, To, Only, AnyJoiner, Input, Deliver, Setting, first_joiner, site_of_joiner, IsNode, IsTo, Addressed, Out, DispatcherKept, DispatcherLive, JoinerKept, JoinerLive, ServerKept, ServerLive, ShardState, Proposal, dispatcher_turn, joiner_turn, server_turn, to_replicas, is_own_joiner, replies, promised, accepted}
 use Rattle.photon_model.proofs.DispatcherRows.{each_packet as each_join}
 use Rattle.photon_model.proofs.JoinerRows.{each_packet}
 use Rattle.photon_model.proofs.ServerRows.{replicas_each, reply_each, replies_each, tick_each, every_row}
@@ -68,9 +68,6 @@ module _ (g : Setting) where
 
   -- ---- replicas: to whoever asks
 
-  replica_gets_right : (k : ReplicaKept) (from : Node) (p : Packet) → IsNode g from → SendsRight (replica_gets k from p)
-  replica_gets_right k from p is = grind arith
-
   -- ---- all
 
   -- who sent it is a node of the setting
@@ -81,7 +78,7 @@ module _ (g : Setting) where
   pub sends_right : (n : Node) (k : KeptOf n) (live : Option (LiveOf n)) (i : Input) → IsNode g n → ComesRight i → SendsRight (row_of (rows_of n) g k live i)
   sends_right (Dispatcher site) k (Some l) i is from = dispatcher_right site k l i
   sends_right (Server site) k (Some l) i is from = server_right site k l is i
-  sends_right (Replica r) k (Some l) (Deliver sender p) is from = replica_gets_right k sender p from
+  sends_right (Replica r) k (Some l) (Deliver sender p) is from = grind arith
   sends_right (Joiner n) k (Some l) i is from = joiner_right n k l i
   sends_right _ k _ _ is from = tt
 

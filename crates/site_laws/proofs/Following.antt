@@ -1,9 +1,9 @@
 -- From each front of what the bus kept, and of the model's run so far, to the next.
-use Rattle.std.proofs.Common.{◌≡◌, ◌≢◌, ◌⊎◌, inl, inr, ⊎_elim, ℕ, Bool, true, false, cond, ◌==◌, List, [], ◌∷◌, ◌++◌, map, Option, Some, None, refl, sym, ap, ◌∙◌, subst, append_assoc, eq-eqb, ne_eqb, arith}
+use Rattle.std.proofs.Common.{◌≡◌, ◌≢◌, ◌⊎◌, inl, inr, ⊎_elim, ℕ, Bool, true, false, cond, ◌==◌, List, [], ◌∷◌, ◌++◌, map, Option, Some, None, refl, sym, ap, ◌∙◌, subst, append_assoc, eq-eqb, arith}
 use Rattle.std.specs.Prelude.{All}
 use Rattle.std.proofs.lemmas.Bool.{eqb-true, eqb-false}
 use Rattle.std.proofs.lemmas.List.Elements.{All-head, All-tail}
-use Rattle.photon_model.proofs.Words.{Mem, mem_left, mem_right, mem_split, each_at, some_same, none_some, Setting, IsNode, node_number, node_of, NumbersAreNodes, Packet, packet, IsPacket, Sent, Node, Input, Start, Own, Tick, Deliver, World, Entry, Disks, after, world_after, sends, WasSent, May, IsRun, opening}
+use Rattle.photon_model.proofs.Words.{Mem, mem_left, mem_right, mem_split, each_at, some_same, Setting, IsNode, node_number, node_of, NumbersAreNodes, Packet, packet, IsPacket, Sent, Node, Input, Start, Own, Tick, Deliver, World, Entry, Disks, after, world_after, sends, WasSent, May, IsRun, opening}
 use Rattle.air_bus.specs.declared.entry.Input.{Input as Bytes}
 use Rattle.air_bus.specs.declared.entry.Input.TheVariants as bytes
 use Rattle.air_bus.specs.declared.entry.Entry.{Entry as BusEntry}
@@ -23,9 +23,6 @@ use Rattle.site_laws.proofs.Lifting.{CellOf, put, put_sent, put_here, put_else, 
 
 made_here : (e : BusEntry) (es : List BusEntry) (n : ℕ) → number_in e ≡ n → made_by n (e ∷ es) ≡ e ∷ made_by n es
 made_here e es n is = ap (λ b. cond b (e ∷ made_by n es) (made_by n es)) (eq-eqb _ _ is)
-
-made_else : (e : BusEntry) (es : List BusEntry) (n : ℕ) → number_in e ≢ n → made_by n (e ∷ es) ≡ made_by n es
-made_else e es n ne = ap (λ b. cond b (e ∷ made_by n es) (made_by n es)) (ne_eqb _ _ ne)
 
 -- ---- what was sent
 
@@ -155,7 +152,7 @@ module _ (g : Setting) (one : OneSpelling) (numbers : NumbersAreNodes g) (h : Li
 
   others_after : (before : List BusEntry) (e : BusEntry) (rest : List BusEntry) (w : World) → Followed before (e ∷ rest) w
       → (n : Node) → node_of g (number_in e) ≡ Some n → (m : ℕ) → node_of g m ≡ None → made_by m rest ≡ []
-  others_after before e rest w f n is m none = sym (made_else e rest m (λ same. none_some n (sym none ∙ ap (node_of g) (sym same) ∙ is))) ∙ f.no_others m none
+  others_after before e rest w f n is m none = grind arith
 
   one_more : (before : List BusEntry) (e : BusEntry) (rest : List BusEntry) (w : World) → Followed before (e ∷ rest) w → OneMore before e rest w
   one_more before e rest w f =
@@ -186,11 +183,8 @@ module _ (g : Setting) (one : OneSpelling) (numbers : NumbersAreNodes g) (h : Li
         followed = subst (Followed (before ++ e ∷ []) rest) (sym (after_is g w n s.deed)) there;
       }
 
-  stands_now : (n : Node) (c : CellOf n) → GoesFrom g n c [] (at n) → StandsFor g c (at n)
-  stands_now n c goes = grind arith
-
   pub follow : (rest before : List BusEntry) (w : World) → Followed before rest w → Follows w rest
-  follow [] before w f = record { entries = []; means = tt; run = tt; stands = λ n is. stands_now n (cell_of w n) (f.nodes n is) }
+  follow [] before w f = grind arith
   follow (e ∷ rest) before w f =
       let now = one_more before e rest w f in
       let later = follow rest (before ++ e ∷ []) (after g w now.entry) now.followed in

@@ -59,7 +59,7 @@ all_each P (x ∷ xs) h = (All-head P x xs h, all_each P xs (All-tail P x xs h))
 abbrev pub NotesApart : Type 0
 NotesApart = (v w : ReplicaNote) (s t : List ℕ) → IsNote v → IsNote w → note v ++ s ≡ note w ++ t → v ≡ w
 
-abbrev as_note : BallotNote → ReplicaNote
+abbrev pub as_note : BallotNote → ReplicaNote
 as_note (Promised at b) = replica.Promised at.shard at.slot b
 as_note (Accepted at b v) = replica.Accepted at.shard at.slot b v
 
@@ -70,10 +70,10 @@ as_vote (replica.Accepted shard slot b v) = Accepted (place_of shard slot) b v
 back : (n : BallotNote) → as_vote (as_note n) ≡ n
 back n = grind arith
 
-record_is : (n : BallotNote) → vote_record n ≡ note (as_note n)
+pub record_is : (n : BallotNote) → vote_record n ≡ note (as_note n)
 record_is n = grind arith
 
-is_note : (n : BallotNote) → IsVoted n → IsNote (as_note n)
+pub is_note : (n : BallotNote) → IsVoted n → IsNote (as_note n)
 is_note n is = grind arith
 
 module _ (notes_apart : NotesApart) where
@@ -109,12 +109,9 @@ keep_one_topology t u c a b = grind arith
 pub read_topology : ReadTopologyIsKept
 read_topology h bytes k = grind arith
 
-view_record : (n : ReplicaNote) → note n ≡ vote_record (note_view n)
-view_record n = grind arith
-
 views_record : (ns : List ReplicaNote) → map note ns ≡ map vote_record (map note_view ns)
 views_record [] = refl
-views_record (n ∷ ns) = ap (λ (b : List ℕ). b ∷ map note ns) (view_record n) ∙ ap (λ (bs : List (List ℕ)). vote_record (note_view n) ∷ bs) (views_record ns)
+views_record (n ∷ ns) = grind (arith, views_record ns)
 
 pub read_notes : ReadNotesAreKept
 read_notes notes bytes k = (views_ok notes k.0, subst (λ (rs : List (List ℕ)). StandsFor rs bytes) (views_record notes) k.1)

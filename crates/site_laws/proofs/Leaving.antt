@@ -1,10 +1,8 @@
 -- What all disks may hold is an image of the model's world after the run.
-use Rattle.std.proofs.Common.{◌≡◌, ⊎_elim, Bool, true, List, [], ◌∷◌, ◌++◌, Some, refl, ◌∙◌, subst, arith}
-use Rattle.photon_model.proofs.Words.{Setting, IsNode, land, Node, Dispatcher, Server, Replica, Joiner, Input, World, Entry, Begin, End, Stop, Disks, disks, after, world_after, May, IsRun, opening, WholeSound, RunsKeepWhole, left_by, image, ImagesAreRuns, Cell}
-use Rattle.air_bus.specs.declared.entry.Input.{Input as Bytes}
+use Rattle.std.proofs.Common.{◌≡◌, ⊎_elim, Bool, true, List, [], ◌∷◌, ◌++◌, refl, ◌∙◌, subst, arith}
+use Rattle.photon_model.proofs.Words.{Setting, IsNode, Node, Dispatcher, Server, Replica, Joiner, World, Entry, Begin, End, Stop, Disks, disks, after, world_after, May, IsRun, opening, WholeSound, RunsKeepWhole, left_by, image, ImagesAreRuns, Cell}
 use Rattle.air_bus.specs.declared.entry.Entry.{Entry as BusEntry}
-use Rattle.site_node.specs.Bytes.{Reads}
-use Rattle.site_node.specs.States.{State, Rows, MayHold, row_of}
+use Rattle.site_node.specs.States.{State, Rows, MayHold}
 use Rattle.site_laws.specs.Kinds.{StateOf, rows_of, cell_of, kept_of}
 use Rattle.site_laws.specs.Meaning.{StandsFor}
 use Rattle.site_laws.specs.Choosing.{is_node_or}
@@ -19,14 +17,8 @@ module _ {K L : Type 0} (rows : Rows K L) (g : Setting) (one : OneSpelling) (c :
   abbrev pub Landed : Type 0
   Landed = (b : Bool) × (left_by rows.lands (model_row rows g c) b c ≡ k)
 
-  not_landed : k ≡ s.kept → Landed
-  not_landed e = grind arith
-
-  has_landed : (b : Bytes) × (i : Input) × (s.opened ≡ Some b) × Reads s.setting b i × (k ≡ land rows.lands (row_of rows s.setting s.kept s.live i).note s.kept) → Landed
-  has_landed x = grind (arith, one_reading)
-
   pub held : MayHold rows s k → Landed
-  held m = ⊎_elim not_landed has_landed m
+  held m = grind (arith, one_reading)
 
 -- ---- numbers that no node has
 

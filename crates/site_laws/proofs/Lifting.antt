@@ -1,5 +1,5 @@
 -- What one node does, in the world of all.
-use Rattle.std.proofs.Common.{◌≡◌, ◌≢◌, ⊎_elim, ℕ, ◌≤◌, cond, List, ◌++◌, None, refl, sym, ap, ◌∙◌, eq-eqb, ne_eqb, arith}
+use Rattle.std.proofs.Common.{◌≡◌, ◌≢◌, ⊎_elim, ℕ, ◌≤◌, List, ◌++◌, None, refl, sym, ◌∙◌, arith}
 use Rattle.std.proofs.lemmas.Bool.{cases_lt}
 use Rattle.photon_model.proofs.Words.{set_at, Setting, none_some, IsNode, node_of, node_count, NumbersAreNodes, Sent, Node, Dispatcher, Server, Replica, Joiner, World, Disks, after, May, down, opening, Cell}
 use Rattle.site_laws.specs.Kinds.{KeptOf, LiveOf, rows_of, cell_of, kept_of}
@@ -18,23 +18,17 @@ put w (Joiner j) c more = record w { joiners = set_at w.joiners j c; sent = more
 pub put_sent : (w : World) (n : Node) (c : CellOf n) (more : List Sent) → (put w n c more).sent ≡ more ++ w.sent
 put_sent w n c more = grind arith
 
-set_here : {A : Type 0} (f : ℕ → A) (n : ℕ) (v : A) → set_at f n v n ≡ v
-set_here f n v = ap (λ b. cond b v (f n)) (eq-eqb n n refl)
-
-set_else : {A : Type 0} (f : ℕ → A) (n m : ℕ) (v : A) → m ≢ n → set_at f n v m ≡ f m
-set_else f n m v ne = ap (λ b. cond b v (f m)) (ne_eqb m n ne)
-
 pub put_here : (w : World) (n : Node) (c : CellOf n) (more : List Sent) → cell_of (put w n c more) n ≡ c
-put_here w (Dispatcher s) c more = set_here w.dispatchers s c
-put_here w (Server s) c more = set_here w.servers s c
-put_here w (Replica r) c more = set_here w.replicas r c
-put_here w (Joiner j) c more = set_here w.joiners j c
+put_here w (Dispatcher s) c more = grind arith
+put_here w (Server s) c more = grind arith
+put_here w (Replica r) c more = grind arith
+put_here w (Joiner j) c more = grind arith
 
 pub put_else : (w : World) (n m : Node) (c : CellOf n) (more : List Sent) → m ≢ n → cell_of (put w n c more) m ≡ cell_of w m
-put_else w (Dispatcher s) (Dispatcher t) c more ne = set_else w.dispatchers s t c (λ e. ne (ap (λ k. Dispatcher k) e))
-put_else w (Server s) (Server t) c more ne = set_else w.servers s t c (λ e. ne (ap (λ k. Server k) e))
-put_else w (Replica s) (Replica t) c more ne = set_else w.replicas s t c (λ e. ne (ap (λ k. Replica k) e))
-put_else w (Joiner s) (Joiner t) c more ne = set_else w.joiners s t c (λ e. ne (ap (λ k. Joiner k) e))
+put_else w (Dispatcher s) (Dispatcher t) c more ne = grind arith
+put_else w (Server s) (Server t) c more ne = grind arith
+put_else w (Replica s) (Replica t) c more ne = grind arith
+put_else w (Joiner s) (Joiner t) c more ne = grind arith
 put_else w _ _ c more ne = refl
 
 -- what a node may do may come next

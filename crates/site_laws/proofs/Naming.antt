@@ -1,25 +1,23 @@
 -- The disks of a setting, and the numbers of its joiners.
-use Rattle.std.proofs.Common.{◌≡◌, ◌≢◌, ◌⊎◌, inl, inr, ⊎_elim, ℕ, ◌+◌, ◌-◌, ◌<◌, List, [], refl, arith, zero, suc, lit<}
+use Rattle.std.proofs.Common.{◌≡◌, ◌≢◌, ◌⊎◌, inl, inr, ⊎_elim, ℕ, ◌+◌, ◌-◌, ◌<◌, List, [], Option, Some, refl, subst, arith, zero, suc, lit<}
+use Rattle.std.specs.Prelude.{IfSome}
 use Rattle.std.proofs.lemmas.Bool.{cases_lt}
+use Rattle.list_words.proofs.Lists.{none_some, some_same}
 use Rattle.outside.specs.declared.store.DiskName.{DiskName}
 use Rattle.outside.specs.declared.store.DiskName.TheVariants as name
+use Rattle.turn_defs.specs.Nodes.{IsNode}
 use Rattle.turn_defs.specs.Setting.{Setting, IsJoiner, first_joiner}
-use Rattle.site_laws.specs.Stores.{Bytes, IsDisk, joiner_of}
-
-below_or : (m n : ℕ) → (m < n) ⊎ (m < n → ⊥)
-below_or m n = ⊎_elim (λ l. inl l) (λ l. inr (λ k. absurd (omega (arith, k, l)))) (cases_lt m n)
-
-both_or : {P Q : Type 0} → P ⊎ (P → ⊥) → Q ⊎ (Q → ⊥) → (P × Q) ⊎ (P × Q → ⊥)
-both_or h k = grind arith
+use Rattle.turn_defs.specs.declared.node.Node.{Node}
+use Rattle.site_laws.specs.Stores.{Bytes, IsDisk, joiner_of, node_with}
 
 pub is_disk_or : (g : Setting) (disk : DiskName) → IsDisk g disk ⊎ (IsDisk g disk → ⊥)
 is_disk_or g name.Topology = inl tt
-is_disk_or g (name.Offset s) = below_or s 2
-is_disk_or g (name.Retry s) = below_or s 2
-is_disk_or g (name.Server s) = below_or s 2
-is_disk_or g (name.Replica r) = below_or r g.config.replicas
-is_disk_or g (name.Epoch s j) = both_or (below_or s 2) (below_or j g.config.joiners)
-is_disk_or g (name.Output s j) = both_or (below_or s 2) (below_or j g.config.joiners)
+is_disk_or g (name.Offset s) = grind (arith, cases_lt)
+is_disk_or g (name.Retry s) = grind (arith, cases_lt)
+is_disk_or g (name.Server s) = grind (arith, cases_lt)
+is_disk_or g (name.Replica r) = grind (arith, cases_lt)
+is_disk_or g (name.Epoch s j) = grind (arith, cases_lt)
+is_disk_or g (name.Output s j) = grind (arith, cases_lt)
 
 -- where there are such bytes for each disk of the setting, one function has them all
 module _ (g : Setting) (P : DiskName → List ℕ → Type 0) (each : (disk : DiskName) → IsDisk g disk → (c : List ℕ) × P disk c) where
@@ -67,9 +65,16 @@ one_seat g (suc (suc s)) j t i a b c d e = absurd (omega (arith, a))
 
 pub by_topology : (P : DiskName → Type 0) → P name.Topology → ((disk : DiskName) → disk ≢ name.Topology → P disk) → (disk : DiskName) → P disk
 by_topology P first others name.Topology = first
-by_topology P first others (name.Offset s) = others (name.Offset s) (λ e. cc)
-by_topology P first others (name.Retry s) = others (name.Retry s) (λ e. cc)
-by_topology P first others (name.Server s) = others (name.Server s) (λ e. cc)
-by_topology P first others (name.Replica r) = others (name.Replica r) (λ e. cc)
-by_topology P first others (name.Epoch s j) = others (name.Epoch s j) (λ e. cc)
-by_topology P first others (name.Output s j) = others (name.Output s j) (λ e. cc)
+by_topology P first others _ = others _ (λ e. cc)
+
+-- ---- the node whose disk it is
+
+-- by cases on an option that is computed
+pub by_node : {A : Type 0} (o : Option A) (P : A → Type 0) → ((a : A) → o ≡ Some a → P a) → IfSome o P
+by_node o P some = grind arith
+
+pub node_of_disk : (g : Setting) (disk : DiskName) (n : Node) → IsDisk g disk → node_with g disk ≡ Some n → IsNode g n
+node_of_disk g name.Topology n here own = none_some n own
+node_of_disk g (name.Epoch s j) n here own = subst (IsNode g) (some_same _ n own) (is_joiner g s j here.0 here.1)
+node_of_disk g (name.Output s j) n here own = subst (IsNode g) (some_same _ n own) (is_joiner g s j here.0 here.1)
+node_of_disk g _ n here own = subst (IsNode g) (some_same _ n own) here

@@ -1,6 +1,5 @@
 -- What keeps the disks of a store sound: no bytes at all, nothing new, the topology's record, and what is read from them.
 use Rattle.std.proofs.Common.{◌≡◌, ◌≢◌, ⊎_elim, ℕ, Bool, true, List, [], Option, Some, None, refl, sym, ◌∙◌, ap, subst, arith}
-use Rattle.std.specs.Result.{result_unwrap_or}
 use Rattle.std.proofs.lemmas.List.Elements.{All-nil}
 use Rattle.photon_model.proofs.Words.{some_same, none_some, IsPair, Setting, Topology, topology_of, Store, WholeSound, empty_disks, empty_store, TopologyComesFirst}
 use Rattle.outside.specs.declared.store.DiskName.{DiskName}
@@ -40,9 +39,6 @@ empty_sound whole g image nothing b choice = (
 
 -- ---- nothing new
 
-records_same : (c d : List ℕ) → gate_rule c ≡ gate_rule d → records c ≢ [] → records d ≢ []
-records_same c d e some none = some (ap (λ r. result_unwrap_or r []) e ∙ none)
-
 keep_again : (g : Setting) (b c : Bytes) → ((disk : DiskName) → IsDisk g disk → gate_rule (b disk) ≡ gate_rule (c disk)) → KeepSound g b → KeepSound g c
 keep_again g b c stands x = grind arith
 
@@ -81,7 +77,7 @@ module _ (g : Setting) (before after : Images) (sound : IsSoundStore g before) (
   were_sound = sound earlier.0 (λ disk is. (earlier.1 disk is).0)
 
   pub used_so : (disk : DiskName) → IsDisk g disk → disk ≢ name.Topology → records (b disk) ≢ [] → were_sound.0.is_used ≡ true
-  used_so disk is other some = were_sound.1.used disk is other (records_same (b disk) (earlier.0 disk) (sym ((earlier.1 disk is).1 other)) some)
+  used_so disk is other some = grind (arith, were_sound, earlier)
 
 pub written_sound : TopologyComesFirst → (g : Setting) (before after : Images) → WrittenIsSound g before after
 written_sound first g before after sound written b choice =

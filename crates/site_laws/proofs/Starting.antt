@@ -1,11 +1,10 @@
 -- The worked history of a dispatcher that comes up.
-use Rattle.std.proofs.Common.{◌≡◌, ◌≢◌, ℕ, zero, suc, false, cond, List, [], ◌∷◌, None, refl, sym, ap, ◌∙◌, subst, arith, ne_eqb}
+use Rattle.std.proofs.Common.{◌≡◌, ◌≢◌, ℕ, zero, suc, false, cond, List, [], ◌∷◌, None, refl, sym, ap, ◌∙◌, arith, ne_eqb}
 use Rattle.std.proofs.lemmas.List.Elements.{All-nil}
 use Rattle.photon_model.proofs.Words.{none_some, IsNode, node_number, node_of, worked, Packet, IsPacket, Node, Dispatcher, Server, Replica, Joiner, Start, empty_disks}
 use Rattle.lossy_link.specs.declared.plan.Kind.{Kind}
 use Rattle.lossy_link.specs.Fates.{PlanView}
 use Rattle.air_bus.specs.declared.entry.Input.TheVariants as bytes
-use Rattle.air_bus.specs.declared.entry.Entry.{Entry as BusEntry}
 use Rattle.air_bus.specs.declared.entry.Entry.TheVariants as bus
 use Rattle.air_bus.specs.declared.entry.Phase.TheVariants.{Down, Busy}
 use Rattle.air_bus.specs.History.{IsAired}
@@ -15,7 +14,7 @@ use Rattle.site_node.specs.Bytes.{AreSpelled}
 use Rattle.site_node.specs.States.{Path}
 use Rattle.site_laws.specs.Kinds.{rows_of, down_over}
 use Rattle.site_laws.specs.Laws.{made_by}
-use Rattle.site_laws.specs.Example.{on_the_bus, up_dispatcher, stands_at, DispatcherComesUp, DownIsStrict}
+use Rattle.site_laws.specs.Example.{on_the_bus, stands_at, DispatcherComesUp, DownIsStrict}
 
 -- no packet is spelled by no bytes
 none_spelled : AreSpelled [] []
@@ -25,15 +24,12 @@ none_spelled = record { packets = All-nil (λ (p : Node × Packet). IsPacket p.1
 none_made : (m : ℕ) → 0 ≢ m → made_by m on_the_bus ≡ []
 none_made m ne = ap (λ b. cond b (bus.Begin 0 bytes.Start ∷ cond b (bus.End 0 None [] 0 ∷ []) []) (cond b (bus.End 0 None [] 0 ∷ []) [])) (ne_eqb 0 m ne)
 
-still : (n : Node) → 0 ≢ node_number n → down_over worked empty_disks n ≡ stands_at n → Path (rows_of n) (down_over worked empty_disks n) (made_by (node_number n) on_the_bus) (stands_at n)
-still n ne is = subst (λ (l : List BusEntry). Path (rows_of n) (down_over worked empty_disks n) l (stands_at n)) (sym (none_made (node_number n) ne)) is
-
 paths : (n : Node) → IsNode worked n → Path (rows_of n) (down_over worked empty_disks n) (made_by (node_number n) on_the_bus) (stands_at n)
 paths (Dispatcher zero) is = grind arith
-paths (Dispatcher (suc s)) is = still (Dispatcher (suc s)) (λ e. absurd (omega (arith, e))) (ap (λ b. cond b up_dispatcher (down_over worked empty_disks (Dispatcher (suc s)))) (sym (ne_eqb (suc s) 0 (λ e. absurd (omega (arith, e))))))
-paths (Server s) is = still (Server s) (λ e. absurd (omega (arith, e))) refl
-paths (Replica r) is = still (Replica r) (λ e. absurd (omega (arith, e))) refl
-paths (Joiner j) is = still (Joiner j) (λ e. absurd (omega (arith, e, is.0))) refl
+paths (Dispatcher (suc s)) is = grind (arith, worked, empty_disks, none_made, node_number)
+paths (Server s) is = grind (arith, worked, empty_disks, none_made, node_number)
+paths (Replica r) is = grind (arith, worked, empty_disks, none_made, node_number)
+paths (Joiner j) is = grind (arith, worked, empty_disks, none_made, node_number)
 
 not_busy : Down ≢ Busy
 not_busy e = cc

@@ -1,5 +1,5 @@
 -- What a stop may leave of the disks of a store, and when that is sound.
-use Rattle.std.specs.Prelude.{◌≡◌, ◌≢◌, ◌⊎◌, ℕ, ◌+◌, ◌*◌, ◌<◌, true, List, [], Option, Some, option_map, ⊤}
+use Rattle.std.specs.Prelude.{◌≡◌, ◌≢◌, ◌⊎◌, ℕ, ◌+◌, ◌*◌, ◌<◌, true, List, [], Option, None, Some, IfSome, option_map, ⊤}
 use Rattle.list_words.specs.Lists.{Each}
 use Rattle.outside.specs.declared.store.DiskName.{DiskName}
 use Rattle.outside.specs.declared.store.DiskName.TheVariants as name
@@ -13,16 +13,13 @@ use Rattle.turn_defs.specs.declared.node.Node.{Node}
 use Rattle.turn_defs.specs.declared.node.Node.TheVariants.{Dispatcher, Server, Replica, Joiner}
 use Rattle.turn_defs.specs.Setting.{Setting, first_joiner}
 use Rattle.turn_defs.specs.Nodes.{IsNode}
-use Rattle.turn_defs.specs.Dispatcher.{DispatcherKept}
-use Rattle.turn_defs.specs.Joiner.{JoinerKept}
-use Rattle.turn_defs.specs.Server.{ServerKept}
 use Rattle.turn_defs.specs.Replica.{ReplicaKept}
 use Rattle.site_node.specs.Replicas.{IsVoted, OnDisk}
 use Rattle.site_node.specs.States.{MayHold}
 use Rattle.gate_journal.specs.Images.{IsKeptIn}
 use Rattle.photon_model.specs.Runs.{Disks}
 use Rattle.photon_model.specs.Topology.{Topology, topology_of, Store, WholeSound}
-use Rattle.site_laws.specs.Kinds.{StateOf, rows_of, kept_of}
+use Rattle.site_laws.specs.Kinds.{KeptOf, StateOf, rows_of, kept_of}
 
 -- ---- the disks of a setting
 
@@ -66,15 +63,29 @@ KeepsTopology kept bytes = journal.Keeps (option_map (λ (t : Topology). journal
 abbrev pub KeepsVotes : ReplicaKept → List ℕ → Type 0
 KeepsVotes k bytes = Each IsVoted k.notes × OnDisk k bytes
 
+-- the node whose disk it is; the topology's is none's
+abbrev pub node_with : Setting → DiskName → Option Node
+node_with g name.Topology = None
+node_with g (name.Offset s) = Some (Dispatcher s)
+node_with g (name.Retry s) = Some (Dispatcher s)
+node_with g (name.Server s) = Some (Server s)
+node_with g (name.Replica r) = Some (Replica r)
+node_with g (name.Epoch s j) = Some (Joiner (joiner_of g s j))
+node_with g (name.Output s j) = Some (Joiner (joiner_of g s j))
+
+-- the disk of this name is one of that node's, and its bytes keep what these records of the node say
+abbrev pub KeepsFor : (n : Node) → KeptOf n → DiskName → List ℕ → Type 0
+KeepsFor (Dispatcher s) k (name.Offset t) bytes = KeepsOffset k.offset bytes
+KeepsFor (Dispatcher s) k (name.Retry t) bytes = KeepsPending k.pending bytes
+KeepsFor (Server s) k (name.Server t) bytes = KeepsEpoch k.epoch bytes
+KeepsFor (Replica r) k (name.Replica t) bytes = KeepsVotes k bytes
+KeepsFor (Joiner n) k (name.Epoch s j) bytes = KeepsEpoch k.epoch bytes
+KeepsFor (Joiner n) k (name.Output s j) bytes = KeepsPairs k.pairs bytes
+KeepsFor _ k _ bytes = ⊥
+
 -- the bytes of the disk of this name keep what the records say of it; of the topology they say nothing
 abbrev pub KeepsOf : Setting → Disks → DiskName → List ℕ → Type 0
-KeepsOf g d name.Topology bytes = ⊤
-KeepsOf g d (name.Offset s) bytes = KeepsOffset (d.dispatchers s).offset bytes
-KeepsOf g d (name.Retry s) bytes = KeepsPending (d.dispatchers s).pending bytes
-KeepsOf g d (name.Server s) bytes = KeepsEpoch (d.servers s).epoch bytes
-KeepsOf g d (name.Replica r) bytes = KeepsVotes (d.replicas r) bytes
-KeepsOf g d (name.Epoch s j) bytes = KeepsEpoch (d.joiners (joiner_of g s j)).epoch bytes
-KeepsOf g d (name.Output s j) bytes = KeepsPairs (d.joiners (joiner_of g s j)).pairs bytes
+KeepsOf g d disk bytes = IfSome (node_with g disk) (λ n. KeepsFor n (kept_of d n) disk bytes)
 
 -- the bytes of each disk keep its records
 abbrev pub HoldsRecords : Setting → Bytes → Disks → Type 0
@@ -117,9 +128,5 @@ SameRecords g d e = (n : Node) → IsNode g n → kept_of d n ≡ kept_of e n
 -- setting's.
 pub record AreKept (g : Setting) (at : (n : Node) → StateOf n) (image : Images) : Type 0 where
   pub topology : (c : List ℕ) → image name.Topology c → KeepsTopology (Some (topology_of g)) c
-  pub dispatchers : (s : ℕ) → s < 2 → (o r : List ℕ) → image (name.Offset s) o → image (name.Retry s) r
-      → (k : DispatcherKept) × MayHold (rows_of (Dispatcher s)) (at (Dispatcher s)) k × KeepsOffset k.offset o × KeepsPending k.pending r
-  pub servers : (s : ℕ) → s < 2 → (c : List ℕ) → image (name.Server s) c → (k : ServerKept) × MayHold (rows_of (Server s)) (at (Server s)) k × KeepsEpoch k.epoch c
-  pub replicas : (r : ℕ) → r < g.config.replicas → (c : List ℕ) → image (name.Replica r) c → (k : ReplicaKept) × MayHold (rows_of (Replica r)) (at (Replica r)) k × KeepsVotes k c
-  pub joiners : (s j : ℕ) → s < 2 → j < g.config.joiners → (e o : List ℕ) → image (name.Epoch s j) e → image (name.Output s j) o
-      → (k : JoinerKept) × MayHold (rows_of (Joiner (joiner_of g s j))) (at (Joiner (joiner_of g s j))) k × KeepsEpoch k.epoch e × KeepsPairs k.pairs o
+  pub nodes : (n : Node) → IsNode g n → (b : Bytes) → ((disk : DiskName) → IsDisk g disk → node_with g disk ≡ Some n → image disk (b disk))
+      → (k : KeptOf n) × (MayHold (rows_of n) (at n) k × ((disk : DiskName) → IsDisk g disk → node_with g disk ≡ Some n → KeepsFor n k disk (b disk)))

@@ -14,6 +14,7 @@ ghost use Rattle.site_laws.specs.Rest.{StatesAreQuiet, StatesRest};
 /// Where each entry of a history may follow on the bus, and each node's own entries lead through states of its own disks,
 /// the history is a run, whose packets and notes are those that the bytes spell, and each node stands where its own
 /// entries have led it.
+#[tactic(auto, using(crate::proofs::Following::aired_run))]
 pub fn aired_is_run()
     ensures { AiredIsRun }
 {
@@ -24,6 +25,7 @@ pub fn aired_is_run()
 
 /// Whichever records the disks may then hold, each node's or those with its open turn's note, some run leaves them: this
 /// one, with stops at its end. So a sound store stays sound.
+#[tactic(auto, using(crate::proofs::Leaving::left_image, crate::proofs::Leaving::left_run))]
 pub fn left_on_disks()
     ensures image { LeftIsImage }
     ensures run { LeftIsRun }
@@ -42,6 +44,7 @@ pub fn rest_of_states()
 {}
 
 /// A number that no node has is none of those below the count of nodes.
+#[tactic(auto, using(crate::proofs::Lifting::beyond))]
 pub fn numbers_end()
     ensures { (g : Setting) (m : ℕ) → node_of g m ≡ None → node_count g ≤ m }
 {
@@ -49,6 +52,7 @@ pub fn numbers_end()
 }
 
 /// The law speaks of histories that there are: here a dispatcher comes up. And no node does anything before its start.
+#[tactic(auto, using(crate::proofs::Starting::comes_up, crate::proofs::Starting::strict))]
 pub fn example()
     ensures comes_up { DispatcherComesUp }
     ensures strict { DownIsStrict }

@@ -11,6 +11,7 @@ use packet_codec::Field;
 use paxos_acceptor::ReplicaNote;
 
 /// A store whose disks have no bytes is sound.
+#[tactic(auto, using(crate::proofs::Opening::empty_sound))]
 pub fn empty_store<S: Store>()
     ensures { (g : Setting) (s : S) → LeavesNothing g (S.image s) → IsSoundStore g (S.image s) }
 {
@@ -18,6 +19,7 @@ pub fn empty_store<S: Store>()
 }
 
 /// Bytes keep one topology or none, and of each node of the setting the same records.
+#[tactic(auto, using(crate::proofs::Keeping::keep_one_topology))]
 pub fn once()
     ensures topology { KeepOneTopology }
     ensures records { HoldSameRecords }
@@ -28,6 +30,7 @@ pub fn once()
 
 /// What is read of the topology's disk, and of a replica's, is what the bytes keep; and so is what a replica's state keeps on
 /// its disk, if its notes have spellings.
+#[tactic(auto, using(crate::proofs::Keeping::read_topology, crate::proofs::Keeping::read_notes, crate::proofs::Running::states_keep_votes))]
 pub fn read()
     ensures topology { ReadTopologyIsKept }
     ensures notes { ReadNotesAreKept }
@@ -41,6 +44,7 @@ pub fn same()
 {}
 
 /// The topology's record is a sound store's first, and it is the setting's.
+#[tactic(auto, using(crate::proofs::Opening::topology_first))]
 pub fn fits()
     ensures first { TopologyIsFirst }
     ensures only { TopologyFits }
@@ -98,6 +102,7 @@ pub fn left<S: Store>()
 {}
 
 /// A store of the topology's record alone is sound; one of another topology's isn't, nor one of a pair alone.
+#[tactic(auto, using(crate::proofs::Working::worked_bytes))]
 pub fn example()
     ensures { SoundBytes }
 {

@@ -1,5 +1,5 @@
 -- Where a replica's kept notes and its input have spellings, so have the row's note and packets, and what it keeps then.
-use Rattle.std.proofs.Common.{Bool, true, false, List, [], ◌∷◌, ◌++◌, Option, Some, None, sym, subst}
+use Rattle.std.proofs.Common.{arith, Bool, List, [], ◌∷◌, ◌++◌, Option, Some, None, sym, subst}
 use Rattle.std.specs.Prelude.{All, IfSome, if◌then◌else◌, ⊤}
 use Rattle.list_words.specs.Lists.{Each}
 use Rattle.ballot_core.specs.declared.Ballot.{Ballot}
@@ -7,11 +7,10 @@ use Rattle.ballot_core.specs.Ballots.{is_below, is_same}
 use Rattle.registry_state.specs.declared.Batch.{Batch}
 use Rattle.registry_state.specs.Same.{same_batch}
 use Rattle.paxos_defs.specs.declared.Place.{Place}
-use Rattle.paxos_defs.specs.Notes.{Vote, promise, acceptance, Cell, blank, cell_after, cell_from, accepted_after, votes_at, is_place}
+use Rattle.paxos_defs.specs.Notes.{promise, Cell, blank, cell_from, votes_at}
 use Rattle.paxos_defs.specs.Notes.Note.{Promised, Accepted}
-use Rattle.paxos_defs.specs.Turns.{on_prepare, on_accept, prepare_under, accept_under, vote_anew, is_accepted}
+use Rattle.paxos_defs.specs.Turns.{on_prepare, on_accept, prepare_under, accept_under, vote_anew}
 use Rattle.paxos_defs.specs.Turns.Prepared.{Grant, Refuse}
-use Rattle.paxos_defs.specs.Turns.Taken.{Take, Decline}
 use Rattle.paxos_acceptor.specs.declared.notes.ReplicaNote.{ReplicaNote}
 use Rattle.turn_defs.specs.Spellings.{IsPlace, IsBallot, IsBatch, IsPrior}
 use Rattle.turn_defs.specs.declared.packet.Packet.{Packet}
@@ -25,11 +24,9 @@ use Rattle.turn_defs.specs.Replica.{ReplicaKept, cell_at, prepares, accepts, rep
 use Rattle.site_node.specs.Replicas.{IsVoted}
 use Rattle.std.specs.Prelude.{map}
 use Rattle.std.proofs.lemmas.List.Elements.{All-head, All-tail}
-use Rattle.paxos_acceptor.specs.declared.notes.ReplicaNote.TheVariants.{Promised as PromisedNote, Accepted as AcceptedNote}
 use Rattle.paxos_acceptor.specs.Cells.{note_view}
 use Rattle.packet_codec.specs.Notes.{IsNote}
 use Rattle.turn_defs.specs.declared.node.Input.{Input}
-use Rattle.turn_defs.specs.declared.node.Input.TheVariants.{Start, Own, Tick, Deliver}
 use Rattle.air_bus.specs.declared.entry.Input.{Input as Bytes}
 use Rattle.air_bus.specs.declared.entry.Input.TheVariants as bytes
 use Rattle.site_node.specs.Bytes.{Reads, IsInput}
@@ -37,8 +34,7 @@ use Rattle.site_node.specs.States.{row_of}
 use Rattle.site_node.specs.Replicas.{replica_rows}
 
 view_ok : (n : ReplicaNote) → IsNote n → IsVoted (note_view n)
-view_ok (PromisedNote s l b) is = is
-view_ok (AcceptedNote s l b v) is = is
+view_ok h is = grind arith
 
 pub views_ok : (ns : List ReplicaNote) → All IsNote ns → Each IsVoted (map note_view ns)
 views_ok [] all = tt
@@ -48,21 +44,10 @@ pub record IsCell (c : Cell Batch) : Type 0 where
   pub promised : IfSome c.promised IsBallot
   pub accepted : IsPrior c.accepted
 
-accepted_ok : (old : Option (Ballot × Batch)) (x : Vote Batch) (o : Option Batch) → IsPrior old → IsBallot x.ballot → IfSome o IsBatch → IsPrior (accepted_after old x o)
-accepted_ok old x None prior ballot value = prior
-accepted_ok old x (Some v) prior ballot value = (ballot, value)
-
-after : (c : Cell Batch) (x : Vote Batch) → IsCell c → IsBallot x.ballot → IfSome x.value IsBatch → IsCell (cell_after c x)
-after c x cell ballot value = record { promised = ballot; accepted = accepted_ok c.accepted x x.value cell.accepted ballot value }
-
-step : (t : Bool) (c : Cell Batch) (x : Vote Batch) (rest : List (Vote Batch)) → IsCell c → IsCell (cell_after c x) → ((d : Cell Batch) → IsCell d → IsCell (cell_from d rest)) → IsCell (cell_from c ((if t then x ∷ [] else []) ++ rest))
-step true c x rest cell next go = go (cell_after c x) next
-step false c x rest cell next go = go c cell
-
 votes_ok : (at : Place) (notes : List BallotNote) (c : Cell Batch) → IsCell c → Each IsVoted notes → IsCell (cell_from c (votes_at at notes))
 votes_ok at [] c cell all = cell
-votes_ok at (Promised q b ∷ notes) c cell all = step (is_place q at) c (promise b) (votes_at at notes) cell (after c (promise b) cell all.0.1 tt) (λ d ok. votes_ok at notes d ok all.1)
-votes_ok at (Accepted q b v ∷ notes) c cell all = step (is_place q at) c (acceptance b v) (votes_at at notes) cell (after c (acceptance b v) cell all.0.1 all.0.2) (λ d ok. votes_ok at notes d ok all.1)
+votes_ok at (Promised q b ∷ notes) c cell all = grind (arith, votes_ok at notes)
+votes_ok at (Accepted q b v ∷ notes) c cell all = grind (arith, votes_ok at notes)
 
 cell_ok : (k : ReplicaKept) (at : Place) → Each IsVoted k.notes → IsCell (cell_at k at)
 cell_ok k at all = votes_ok at k.notes blank (record { promised = tt; accepted = tt }) all
@@ -78,9 +63,7 @@ pub record IsSpelledOut (out : Out (Unit {0})) : Type 0 where
 
 module _ (to : Node) (at : Place) (b : Ballot) (c : Cell Batch) (place : IsPlace at) (ballot : IsBallot b) (cell : IsCell c) where
   prepare_one : (p : Ballot) (x y : Bool) → IsBallot p → IsSpelledOut (prepares to at b (if x then (None, Refuse p) else if y then (None, Grant c.accepted) else (Some (promise b), Grant c.accepted)))
-  prepare_one p true y is = record { note = tt; packets = ((place, ballot, is), tt) }
-  prepare_one p false true is = record { note = tt; packets = ((place, ballot, cell.accepted), tt) }
-  prepare_one p false false is = record { note = (place, ballot); packets = ((place, ballot, cell.accepted), tt) }
+  prepare_one p h y is = grind arith
 
   prepare_by : (o : Option Ballot) → IfSome o IsBallot → IsSpelledOut (prepares to at b (prepare_under c b o))
   prepare_by None is = record { note = (place, ballot); packets = ((place, ballot, cell.accepted), tt) }
@@ -90,20 +73,12 @@ module _ (to : Node) (at : Place) (b : Ballot) (c : Cell Batch) (place : IsPlace
   prepares_ok = prepare_by c.promised cell.promised
 
   module _ (v : Batch) (batch : IsBatch v) where
-    anew_one : (x : Bool) → IsSpelledOut (accepts to at b (if x then (None, Take) else (Some (acceptance b v), Take)))
-    anew_one true = record { note = tt; packets = ((place, ballot), tt) }
-    anew_one false = record { note = (place, ballot, batch); packets = ((place, ballot), tt) }
-
     anew : IsSpelledOut (accepts to at b (vote_anew same_batch c b v))
-    anew = anew_one (is_accepted same_batch b v c.accepted)
-
-    accept_one : (p : Ballot) (x : Bool) → IsBallot p → IsSpelledOut (accepts to at b (if x then (None, Decline p) else vote_anew same_batch c b v))
-    accept_one p true is = record { note = tt; packets = ((place, ballot, is), tt) }
-    accept_one p false is = anew
+    anew = grind arith
 
     accept_by : (o : Option Ballot) → IfSome o IsBallot → IsSpelledOut (accepts to at b (accept_under same_batch c b v o))
     accept_by None is = anew
-    accept_by (Some p) is = accept_one p (is_below b p) is
+    accept_by (Some p) is = grind arith
 
     accepts_ok : IsSpelledOut (accepts to at b (on_accept same_batch c b v))
     accepts_ok = accept_by c.promised cell.promised
@@ -121,19 +96,11 @@ each_push [] x all is = (is, tt)
 each_push (y ∷ xs) x all is = (all.0, each_push xs x all.1 is)
 
 pub row_landed_ok : (k : ReplicaKept) (n : Option Note) → Each IsVoted k.notes → IsRowNote n → Each IsVoted (land land_replica n k).notes
-row_landed_ok k None all is = all
-row_landed_ok k (Some (Voted x)) all is = each_push k.notes x all is
-row_landed_ok k (Some _) all is = absurd is
+row_landed_ok k h all is = grind (arith, each_push)
 
 pub input_ok : (g : Setting) (b : Bytes) (i : Input) → Reads g b i → IsInput i
-input_ok g bytes.Start i reads = subst IsInput (sym reads) tt
-input_ok g bytes.Own i reads = subst IsInput (sym reads) tt
-input_ok g bytes.Tick i reads = subst IsInput (sym reads) tt
 input_ok g (bytes.Packet from p) i reads = subst IsInput (sym reads.5) reads.3
+input_ok g _ i reads = subst IsInput (sym reads) tt
 
 pub row_ok : (g : Setting) (k : ReplicaKept) (live : Option (Unit {0})) (i : Input) → Each IsVoted k.notes → IsInput i → IsSpelledOut (row_of replica_rows g k live i)
-row_ok g k None i all is = idle_ok
-row_ok g k (Some l) Start all is = idle_ok
-row_ok g k (Some l) Own all is = idle_ok
-row_ok g k (Some l) Tick all is = idle_ok
-row_ok g k (Some l) (Deliver from p) all is = gets_ok k from p all is
+row_ok g k h i all is = grind (arith, gets_ok)

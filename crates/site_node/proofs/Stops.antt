@@ -1,13 +1,12 @@
 -- What planned stops of its disks do to a node.
-use Rattle.std.proofs.Common.{◌≡◌, ℕ, zero, suc, ◌+◌, Bool, true, false, refl, ◌∙◌, ap, arith}
+use Rattle.std.proofs.Common.{◌≡◌, ℕ, zero, suc, ◌+◌, Bool, true, false, refl, ap, arith}
 use Rattle.outside.specs.Plans.{AtMost, MeetsPlan}
 use Rattle.outside.proofs.Plans.{and_then, fewer, same_plan}
 use Rattle.site_node.specs.Faults.{MeetsStops, MeetsBoth}
 
 -- nothing was met, and then more calls
 pub then_more : (met : Bool) (old mid new : ℕ → Type 0) (before between after : ℕ) → MeetsStops false old mid before between → MeetsStops met mid new between after → MeetsStops met old new before after
-then_more true old mid new before between after a b = λ k so. b k (a.0 k so)
-then_more false old mid new before between after a b = ((λ k so. b.0 k (a.0 k so)), b.1 ∙ a.1)
+then_more h old mid new before between after a b = grind arith
 
 -- Here met says whether a stop was met by the clause of a call, and told whether one was by the answer that was made of it.
 module _ {D : Type 0} (stops : D → ℕ → Bool) (made faults : D → ℕ) (most : ℕ) where

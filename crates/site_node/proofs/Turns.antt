@@ -1,6 +1,6 @@
 -- How a turn of a node of any kind ends, as an entry.
-use Rattle.std.proofs.Common.{◌≡◌, ◌⊎◌, ⊎_elim, ℕ, ◌≤◌, false, List, [], ◌∷◌, length, Option, Some, None, inl, inr, refl, sym, ap, subst}
-use Rattle.std.specs.Prelude.{All, is_some, option_map, Result, Ok, Err, OnErr}
+use Rattle.std.proofs.Common.{arith, ◌≡◌, ◌⊎◌, ⊎_elim, ℕ, ◌≤◌, false, List, [], ◌∷◌, length, Option, Some, None, inl, inr, refl, sym, ap, subst}
+use Rattle.std.specs.Prelude.{All, is_some, option_map, Result, OnErr}
 use Rattle.std.proofs.lemmas.List.Elements.{All-cons, All-nil}
 use Rattle.gate_journal.proofs.Growth.{continues_same, continues_through}
 use Rattle.gate_journal.specs.Growth.{Continues}
@@ -21,28 +21,24 @@ use Rattle.site_node.specs.Bytes.{AreSpelled, IsJunk, Reads, record_of}
 use Rattle.site_node.specs.States.{Fits, Leads, MayHold, MayTake, Rows, State, closes, row, written}
 
 pub none_of : {A : Type 0} (o : Option A) → is_some o ≡ false → o ≡ None
-none_of None off = refl
-none_of (Some x) off = absurd (cc off)
+none_of h off = grind arith
 
 pub on_err : {T E P : Type 0} (r : Result T E) → P → OnErr r P
-on_err (Ok x) p = tt
-on_err (Err e) p = p
+on_err h p = grind arith
 
 -- what it may take is an input that fits
 pub fits_of : {L : Type 0} (g : Setting) (live : Option L) (b : Bytes) (i : Input) → Reads g b i → MayTake live b → Fits live i
 fits_of {L} g None bytes.Start i reads may = subst (Fits {L = L} None) (sym reads) tt
-fits_of g None _ i reads may = absurd may
-fits_of g (Some l) bytes.Start i reads may = absurd may
 fits_of g (Some l) bytes.Own i reads may = subst (Fits (Some l)) (sym reads) tt
 fits_of g (Some l) bytes.Tick i reads may = subst (Fits (Some l)) (sym reads) tt
 fits_of g (Some l) (bytes.Packet from p) i reads may = subst (Fits (Some l)) (sym reads.5) tt
+fits_of g _ _ i reads may = absurd may
 
 -- where a row's packets have spellings, so have those that are sent
 pub sent_ok : (g : Setting) (rows : List (To × Packet)) (ps : List (Node × Packet)) → Each (λ (p : To × Packet). IsPacket p.1) rows → Addressed g rows ps → All (λ (p : Node × Packet). IsPacket p.1) ps
 sent_ok g [] [] e a = All-nil (λ (p : Node × Packet). IsPacket p.1)
-sent_ok g [] (p ∷ ps) e a = absurd a
-sent_ok g (x ∷ xs) [] e a = absurd a
 sent_ok g (x ∷ xs) (p ∷ ps) e a = All-cons (λ (q : Node × Packet). IsPacket q.1) p ps (subst IsPacket a.0.1 e.0) (sent_ok g xs ps e.1 a.1)
+sent_ok g _ _ e a = absurd a
 
 -- what no packet spells comes to a node that is up
 pub up_of : {L : Type 0} (g : Setting) (live : Option L) (b : Bytes) → MayTake live b → IsJunk g b → (l : L) × (live ≡ Some l)

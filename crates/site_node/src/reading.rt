@@ -4,12 +4,12 @@ ghost use Rattle.turn_defs.specs.Setting.{Setting};
 ghost use Rattle.site_node.specs.Bytes.{Reads, IsJunk, IsInput};
 
 use air_bus::Input as Begun;
-use packet_codec::{DecodeFault, decode};
+use packet_codec::{DecodeFault, Origin, decode};
 use std::alloc::{AllocError, Global};
 use turn_defs::{Config, Input};
 
 /// The input that the bytes spell, or None where no input is spelled so, or no node has the sender's number. Linear in
-/// the bytes.
+/// the bytes, which a text shares.
 pub fn read_input(alloc: Global, config: Config, begun: &Begun) -> Result<Option<Input>, AllocError>
     ensures reads { (g : Setting) → g.config ≡ config → IfOk result (λ read. IfSome read (Reads g begun.now)) }
     ensures junk { (g : Setting) → g.config ≡ config → IfOk result (λ read. IfNone read (IsJunk g begun.now)) }
@@ -23,7 +23,8 @@ pub fn read_input(alloc: Global, config: Config, begun: &Begun) -> Result<Option
             let Some(from) = config.node(*from) else {
                 return Ok(None);
             };
-            match decode(alloc, bytes.as_slice()) {
+            let all = bytes.as_slice();
+            match decode(Origin::within(alloc, bytes, all.len()), all) {
                 Ok(packet) => Ok(Some(Input::Deliver { from, packet })),
                 Err(DecodeFault::BadPacket { .. }) => Ok(None),
                 Err(DecodeFault::Memory) => Err(AllocError),

@@ -1,8 +1,9 @@
 -- From a store that was opened to the nodes of a run over it: their records, their places, and the disks that are out.
-use Rattle.std.proofs.Common.{◌≡◌, ◌≢◌, ⊎_elim, ℕ, ◌<◌, List, [], ◌∷◌, map, Some, sym, ◌∙◌, subst, arith}
+use Rattle.std.proofs.Common.{◌≡◌, ◌≢◌, ⊎_elim, ℕ, ◌<◌, List, ◌∷◌, map, Some, sym, ◌∙◌, subst, arith}
 use Rattle.site_run.proofs.Words.{Each, Mem, each_at, each_more, DiskName, IsOpened, Topology, Setting, AreKeptPlaces, Disks, topology_of, Lent, IsOfOne, MayBeLeft, StaysAs, opened_same, Images, IsSoundStore, KeepsTopology, WrittenIsSound, IsTopologyWritten, Fits, all_kept, other_names, KeptDisk, OpenView, IsOfKind, AreRecordsOf, kept_all, lent_all, IsOut, IsAsked, others_apart, others_are, is_named, not_topology, records_of, are_records, site_fits, names_kept, AreOut, KeepsItsRecord}
 use Rattle.outside.specs.declared.store.DiskName.TheVariants as name
 use Rattle.topology_journal.specs.Topologies as journal
+use Rattle.site_store.proofs.Lending.{lacks_by_names}
 use Rattle.site_run.proofs.Outing.{stays_goes_on}
 
 -- ---- the records of a run's nodes
@@ -25,13 +26,9 @@ module _ {D : Type 0} (disks : List (OpenView D)) (n replicas : ℕ) (named : ma
 abbrev pub IsApart : {D : Type 0} → Lent D → Type 0
 IsApart l = l.name ≢ name.Topology
 
-apart_from : {D : Type 0} (disks : List (OpenView D)) → Each (λ n. n ≢ name.Topology) (map (λ (o : OpenView D). o.name) disks) → Each IsApart (lent_all disks)
-apart_from [] each = tt
-apart_from (o ∷ os) each = (each.0, apart_from os each.1)
-
 -- so it is with all others of a store that was opened
 pub all_apart : {D : Type 0} (disks : List (OpenView D)) (n replicas : ℕ) → map (λ (o : OpenView D). o.name) disks ≡ other_names n replicas → Each IsApart (lent_all disks)
-all_apart disks n replicas named = apart_from disks (subst (Each (λ m. m ≢ name.Topology)) (sym named) (not_topology n replicas))
+all_apart disks n replicas named = lacks_by_names name.Topology disks _ named (not_topology n replicas)
 
 -- ---- the disks that are out
 

@@ -2,9 +2,8 @@
 use Rattle.std.proofs.Common.{◌≡◌, inl, ⊎_elim, ℕ, suc, ◌+◌, ◌≤◌, List, [], ◌∷◌, ◌++◌, true, Option, None, Some, refl, sym, ap, ◌∙◌, subst, arith}
 use Rattle.std.proofs.lemmas.Bool.{eqb-true}
 use Rattle.air_bus.specs.declared.entry.Input.TheVariants.{Start}
-use Rattle.photon_model.proofs.JoinerRows as joining
 use Rattle.photon_model.proofs.ServerRows as serving
-use Rattle.photon_model.proofs.Words.{Phase, Proposal, accepted, answers, joiner_turn, server_turn}
+use Rattle.photon_model.proofs.Words.{Phase, Proposal, accepted, joiner_turn, server_turn}
 use Rattle.site_node.specs.States as states
 use Rattle.site_run.proofs.Words.{each_at, mem_right, BusEntry, Begin, End, Stop, Batch, Bytes, Disks, Dispatcher, Each, Server, Replica, Joiner, Input, JoinerKept, JoinerLive, Mem, Node, Note, Place, Rows, ServerKept, ServerLive, Setting, State, StateOf, ComesToLast, HasCome, IsAtLast, any_of, down_over, is_of, land, land_server, made_by, node_number, row_of, rows_of, stop_count}
 use Rattle.site_run.specs.AnyNodes.{StartsAt}

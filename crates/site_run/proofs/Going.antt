@@ -1,17 +1,12 @@
 -- Disks that have gone on, step by step and place by place.
-use Rattle.std.proofs.Common.{◌≡◌, ℕ, zero, suc, ◌+◌, ◌<◌, List, [], ◌∷◌, ◌++◌, length, refl, ◌∙◌, subst, arith}
+use Rattle.std.proofs.Common.{◌≡◌, ℕ, zero, suc, ◌+◌, ◌<◌, List, [], ◌∷◌, length, refl, ◌∙◌, subst, arith}
 use Rattle.std.specs.Prelude.{slice_index_or}
-use Rattle.site_run.proofs.Words.{Continues, continues_same, continues_through, Node, Setting, IsNode, NumbersAreNodes, node_number, node_count, Lent, EachWith, all_from, of_dispatcher, of_server, of_replica, of_joiner, Reached, OneOf, HasGoneOn, HaveGoneOn, Config}
+use Rattle.site_run.proofs.Words.{Continues, continues_same, continues_through, Node, Setting, IsNode, NumbersAreNodes, node_number, node_count, Lent, EachWith, each_same, each_with_append, all_from, of_dispatcher, of_server, of_replica, of_joiner, Reached, OneOf, HasGoneOn, HaveGoneOn, Config}
 use Rattle.site_workers.specs.FourKinds as one
-use Rattle.site_workers.specs.declared.one_of.OneOf.TheVariants as node
 
 -- ---- lists side by side
 
 module _ {A : Type 0} (R : A → A → Type 0) where
-  with_same : ((x : A) → R x x) → (xs : List A) → EachWith R xs xs
-  with_same same [] = tt
-  with_same same (x ∷ xs) = (same x, with_same same xs)
-
   with_through : ((x y z : A) → R x y → R y z → R x z) → (xs ys zs : List A) → EachWith R xs ys → EachWith R ys zs → EachWith R xs zs
   with_through through [] [] [] a b = tt
   with_through through [] [] (z ∷ zs) a b = absurd b
@@ -19,12 +14,6 @@ module _ {A : Type 0} (R : A → A → Type 0) where
   with_through through (x ∷ xs) [] zs a b = absurd a
   with_through through (x ∷ xs) (y ∷ ys) [] a b = absurd b
   with_through through (x ∷ xs) (y ∷ ys) (z ∷ zs) a b = (through x y z a.0 b.0, with_through through xs ys zs a.1 b.1)
-
-  with_append : (ws xs ys zs : List A) → EachWith R ws xs → EachWith R ys zs → EachWith R (ws ++ ys) (xs ++ zs)
-  with_append [] [] ys zs a b = b
-  with_append [] (x ∷ xs) ys zs a b = absurd a
-  with_append (w ∷ ws) [] ys zs a b = absurd a
-  with_append (w ∷ ws) (x ∷ xs) ys zs a b = (a.0, with_append ws xs ys zs a.1 b)
 
 -- ---- the disks of one node
 
@@ -36,7 +25,7 @@ module _ {D : Type 0} (image : D → List ℕ → Type 0) where
   gone_through x y z a b = record { named = b.named ∙ a.named; grown = λ c now. continues_through (image x.disk) (image y.disk) a.grown c (b.grown c now) }
 
   pub all_same : (lent : List (Lent D)) → HaveGoneOn image lent lent
-  all_same lent = with_same (HasGoneOn image) gone_same lent
+  all_same lent = each_same (HasGoneOn image) gone_same lent
 
   pub all_through : (xs ys zs : List (Lent D)) → HaveGoneOn image xs ys → HaveGoneOn image ys zs → HaveGoneOn image xs zs
   all_through xs ys zs a b = with_through (HasGoneOn image) gone_through xs ys zs a b
@@ -72,7 +61,7 @@ module _ {N D : Type 0} (image : D → List ℕ → Type 0) (disks_of : ℕ → 
   from_on k [] (w ∷ ws) count each = absurd (omega (arith, count))
   from_on k (v ∷ vs) [] count each = absurd (omega (arith, count))
   from_on k (v ∷ vs) (w ∷ ws) count each =
-      with_append (HasGoneOn image) (disks_of k v) (disks_of k w) (all_from disks_of (suc k) vs) (all_from disks_of (suc k) ws) (each 0 k v w (omega arith) (omega arith))
+      each_with_append (HasGoneOn image) (disks_of k v) (all_from disks_of (suc k) vs) (disks_of k w) (all_from disks_of (suc k) ws) (each 0 k v w (omega arith) (omega arith))
       (from_on (suc k) vs ws (omega (arith, count)) (λ i j a b is below. each (suc i) j a b (omega (arith, is)) (omega (arith, below))))
 
   -- where those of each place have gone on, all have

@@ -79,37 +79,39 @@ none_accepted : (from n : ℕ) (x : Insert) → Mem x (inserts_of (values_from (
 none_accepted from zero x m = m
 none_accepted from (suc n) x m = none_accepted (suc from) n x m
 
+-- a run over records that are none, and the lines that were told
+module _ (laws : Laws) (g : Setting) (h : List BusEntry) (after : Images) (faulted : Type 0) (js : Journals) (lines : List ReportLine) (checked : Checked g) (table : IsTable g.config.table) (are : AreLinesBy g js lines) (rested : HasRested g empty_disks h after faulted js) where
+  was : SoundStore g empty_disks
+  was = (laws.empty g).records
+
+  abbrev now : Disks
+  now = left laws g empty_disks h after faulted js checked was rested
+
+  same : lines ≡ kept.report g now
+  same = are ∙ told laws g empty_disks h after faulted js checked was rested
+
+  none_missing : (faulted → ⊥) → (l : ClickLine) → Mem l g.clicks → kept.line_of g now l.click.id ≡ M l.click.id → ⊥
+  none_missing calm l m e =
+      let held = missing laws g empty_disks h after faulted js checked was rested calm l.click.id ((laws.missing g now l.click.id).0 e) in
+      none_accepted 0 g.config.replicas _ held.2
+
+  joined_afresh : JoinsAfresh g faulted lines
+  joined_afresh = record {
+    left = now;
+    are = same;
+    exact = laws.clicks g rested.entries checked table rested.run.run rested.rest;
+    whole = λ calm. ap logs.text_of (same ∙ laws.report g rested.entries checked table rested.run.run rested.rest (none_missing calm));
+  }
+
+blank : (laws : Laws) (g : Setting) (before after : Images) (h : List BusEntry) (faulted : Type 0) (js : Journals) → LeavesNothing g before → (rest : RestLeft g before after h faulted js) → SameRecords g rest.store.disks empty_disks
+blank laws g before after h faulted js nothing rest = laws.one_records g (λ disk. []) rest.store.disks empty_disks
+    (λ disk is. let x = rest.kept.records disk is in subst (λ (c : List ℕ). KeepsOf g rest.store.disks disk c) (nothing disk is x.0 x.1) x.2)
+    (λ disk is. empty_keeps g disk)
+
 pub afresh : Laws → (g : Setting) (before after : Images) (h : List BusEntry) (faulted : Type 0) (js : Journals) (lines : List ReportLine)
     → Checked g → IsTable g.config.table → LeavesNothing g before → RestLeft g before after h faulted js → AreLinesBy g js lines → JoinsAfresh g faulted lines
-afresh laws g before after h faulted js lines checked table nothing rest are = record {
-  left = now;
-  are = same;
-  exact = laws.clicks g rested.entries checked table rested.run.run rested.rest;
-  whole = λ calm. ap logs.text_of (same ∙ laws.report g rested.entries checked table rested.run.run rested.rest (none_missing calm));
-}
-  where
-    keeps : (disk : DiskName) → IsDisk g disk → KeepsOf g rest.store.disks disk []
-    keeps disk is = let x = rest.kept.records disk is in subst (λ (c : List ℕ). KeepsOf g rest.store.disks disk c) (nothing disk is x.0 x.1) x.2
-
-    blank : SameRecords g rest.store.disks empty_disks
-    blank = laws.one_records g (λ disk. []) rest.store.disks empty_disks keeps (λ disk is. empty_keeps g disk)
-
-    rested : HasRested g empty_disks h after faulted js
-    rested = rest.ran empty_disks blank
-
-    was : SoundStore g empty_disks
-    was = (laws.empty g).records
-
-    now : Disks
-    now = left laws g empty_disks h after faulted js checked was rested
-
-    same : lines ≡ kept.report g now
-    same = are ∙ told laws g empty_disks h after faulted js checked was rested
-
-    none_missing : (faulted → ⊥) → (l : ClickLine) → Mem l g.clicks → kept.line_of g now l.click.id ≡ M l.click.id → ⊥
-    none_missing calm l m e =
-        let held = missing laws g empty_disks h after faulted js checked was rested calm l.click.id ((laws.missing g now l.click.id).0 e) in
-        none_accepted 0 g.config.replicas _ held.2
+afresh laws g before after h faulted js lines checked table nothing rest are =
+    joined_afresh laws g h after faulted js lines checked table are (rest.ran empty_disks (blank laws g before after h faulted js nothing rest))
 
 -- ---- by the run's own history
 
@@ -124,37 +126,18 @@ pub joins_by_stops : Laws → NoneStops → (g : Setting) (before after : Images
 joins_by_stops laws none g before after h faulted js lines checked sound rest are =
     joins laws g before after h (JoinerStopped g h) js lines checked sound (by_stops g before after h faulted js none rest) are
 
--- a run over records that are none, and the lines that were told
-module _ (laws : Laws) (g : Setting) (h : List BusEntry) (after : Images) (js : Journals) (lines : List ReportLine) (checked : Checked g) (table : IsTable g.config.table) (are : AreLinesBy g js lines) (rested : HasRested g empty_disks h after (JoinerStopped g h) js) where
-  was : SoundStore g empty_disks
-  was = (laws.empty g).records
-
-  abbrev now : Disks
-  now = left laws g empty_disks h after (JoinerStopped g h) js checked was rested
-
-  same : lines ≡ kept.report g now
-  same = are ∙ told laws g empty_disks h after (JoinerStopped g h) js checked was rested
-
-  none_missing : (JoinerStopped g h → ⊥) → (l : ClickLine) → Mem l g.clicks → kept.line_of g now l.click.id ≡ M l.click.id → ⊥
-  none_missing calm l m e =
-      let held = missing laws g empty_disks h after (JoinerStopped g h) js checked was rested calm l.click.id ((laws.missing g now l.click.id).0 e) in
-      none_accepted 0 g.config.replicas _ held.2
-
-  ran_afresh : RanAfresh g h lines
-  ran_afresh = record {
-    at = rested.at;
-    entries = rested.entries;
-    run = rested.run;
-    rest = rested.rest;
-    are = same;
-    exact = laws.clicks g rested.entries checked table rested.run.run rested.rest;
-    whole = λ calm. same ∙ laws.report g rested.entries checked table rested.run.run rested.rest (none_missing calm);
-  }
-
-blank : (laws : Laws) (g : Setting) (before after : Images) (h : List BusEntry) (faulted : Type 0) (js : Journals) → LeavesNothing g before → (rest : RestLeft g before after h faulted js) → SameRecords g rest.store.disks empty_disks
-blank laws g before after h faulted js nothing rest = laws.one_records g (λ disk. []) rest.store.disks empty_disks
-    (λ disk is. let x = rest.kept.records disk is in subst (λ (c : List ℕ). KeepsOf g rest.store.disks disk c) (nothing disk is x.0 x.1) x.2)
-    (λ disk is. empty_keeps g disk)
+ran_afresh : (laws : Laws) (g : Setting) (h : List BusEntry) (after : Images) (js : Journals) (lines : List ReportLine) → Checked g → IsTable g.config.table → AreLinesBy g js lines → HasRested g empty_disks h after (JoinerStopped g h) js → RanAfresh g h lines
+ran_afresh laws g h after js lines checked table are rested =
+    let told = same laws g h after (JoinerStopped g h) js lines checked table are rested in
+    record {
+      at = rested.at;
+      entries = rested.entries;
+      run = rested.run;
+      rest = rested.rest;
+      are = told;
+      exact = laws.clicks g rested.entries checked table rested.run.run rested.rest;
+      whole = λ calm. told ∙ laws.report g rested.entries checked table rested.run.run rested.rest (none_missing laws g h after (JoinerStopped g h) js lines checked table are rested calm);
+    }
 
 pub ran : Laws → NoneStops → (g : Setting) (before after : Images) (h : List BusEntry) (faulted : Type 0) (js : Journals) (lines : List ReportLine)
     → Checked g → IsTable g.config.table → LeavesNothing g before → RestLeft g before after h faulted js → AreLinesBy g js lines → RanAfresh g h lines

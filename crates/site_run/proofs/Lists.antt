@@ -1,5 +1,5 @@
 -- Lists of nodes that grow at their end.
-use Rattle.std.proofs.Common.{◌≡◌, ℕ, suc, ◌+◌, List, [], ◌∷◌, ◌++◌, length, map, refl, sym, ap, ◌∙◌, arith, append_assoc, length-append}
+use Rattle.std.proofs.Common.{◌≡◌, ℕ, suc, ◌+◌, ◌<◌, List, [], ◌∷◌, ◌++◌, length, map, refl, sym, ap, ◌∙◌, arith, append_assoc, length-append}
 use Rattle.site_run.proofs.Words.{append-nil, get_or_append_left, length-map, cases_lt, get_or-append_seam, all_from, AllAt}
 
 pub all_more : {N X : Type 0} (f : ℕ → N → List X) (i : ℕ) (ns : List N) (n : N) → all_from f i (ns ++ n ∷ []) ≡ all_from f i ns ++ f (i + length ns) n
@@ -24,3 +24,7 @@ mapped_length f xs ys is = sym (length-map xs f) ∙ ap length is
 pub no_items : {X : Type 0} (xs : List X) → length xs ≡ 0 → xs ≡ []
 no_items [] is = refl
 no_items (x ∷ xs) is = absurd (omega (arith, is))
+
+pub some_of : {X : Type 0} (xs : List X) → 0 < length xs → X
+some_of [] some = absurd (omega (arith, some))
+some_of (x ∷ xs) some = x

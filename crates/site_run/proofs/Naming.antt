@@ -1,5 +1,5 @@
 -- The numbers of a setting, and the names of its nodes' disks and logs.
-use Rattle.std.proofs.Common.{◌≡◌, ◌≢◌, ℕ, ◌+◌, ◌-◌, ◌*◌, ◌<◌, ◌≤◌, Bool, true, false, if◌then◌else◌, None, Some, refl, sym, subst, arith}
+use Rattle.std.proofs.Common.{◌≡◌, ◌≢◌, ℕ, ◌+◌, ◌*◌, ◌<◌, ◌≤◌, Bool, true, false, if◌then◌else◌, None, Some, refl, sym, subst, arith}
 use Rattle.outside.specs.declared.store.DiskName.TheVariants as name
 use Rattle.site_node.specs.Faults.{of_two}
 use Rattle.site_run.proofs.Words.{lt-ltb, ltb-false, Mem, Config, DiskName, IsNode, Node, Dispatcher, Server, Replica, Joiner, NodeDisk, Setting, count_of, disk_of, node_number, site_of}

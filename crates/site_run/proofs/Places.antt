@@ -1,10 +1,12 @@
 -- Lists that are put together place by place, and whose disk a name is.
-use Rattle.std.proofs.Common.{◌≡◌, ⊎_elim, ℕ, zero, suc, ◌+◌, ◌<◌, List, [], ◌∷◌, length, subst, arith}
+use Rattle.std.proofs.Common.{◌≡◌, ◌≢◌, ⊎_elim, ℕ, zero, suc, ◌+◌, ◌<◌, List, [], ◌∷◌, length, Some, None, subst, arith}
 use Rattle.std.specs.Prelude.{slice_index_or}
-use Rattle.site_run.proofs.Words.{Mem, mem_left, mem_right, mem_split, DiskName, Node, Dispatcher, Server, Replica, Joiner, Setting, IsNode, Lent, StateOf, Config, site_of, all_from, HoldsAs}
+use Rattle.list_words.specs.Lists.{EachPair}
+use Rattle.site_run.proofs.Words.{Mem, mem_left, mem_right, mem_split, DiskName, Node, Setting, IsNode, Config, IsDisk, joiner_of, is_joiner, node_with, site_of, place_at, all_from}
 use Rattle.outside.specs.declared.store.DiskName.TheVariants as name
-use Rattle.site_run.specs.Naming.{joiner_of}
-use Rattle.site_laws.specs.Stores as stores
+use Rattle.site_laws.proofs.Naming.{one_seat}
+use Rattle.site_run.proofs.Naming.{seat_of}
+use Rattle.site_run.specs.Naming.{names_of}
 
 -- ---- lists put together
 
@@ -32,38 +34,29 @@ module _ {N X : Type 0} (f : ℕ → N → List X) where
 
 -- ---- whose disk a name is
 
--- the name is that of one of this node's disks
-abbrev pub IsDiskOf : Config → Node → DiskName → Type 0
-IsDiskOf config (Dispatcher s) (name.Offset t) = t ≡ s
-IsDiskOf config (Dispatcher s) (name.Retry t) = t ≡ s
-IsDiskOf config (Server s) (name.Server t) = t ≡ s
-IsDiskOf config (Replica r) (name.Replica t) = t ≡ r
-IsDiskOf config (Joiner n) (name.Epoch s j) = (s ≡ site_of config n) × (j ≡ joiner_of config n)
-IsDiskOf config (Joiner n) (name.Output s j) = (s ≡ site_of config n) × (j ≡ joiner_of config n)
-IsDiskOf config _ _ = ⊥
-
--- the node whose disk a name is, if it isn't the topology's
-abbrev pub node_with : Setting → DiskName → Node
-node_with g name.Topology = Dispatcher 0
-node_with g (name.Offset s) = Dispatcher s
-node_with g (name.Retry s) = Dispatcher s
-node_with g (name.Server s) = Server s
-node_with g (name.Replica r) = Replica r
-node_with g (name.Epoch s j) = Joiner (stores.joiner_of g s j)
-node_with g (name.Output s j) = Joiner (stores.joiner_of g s j)
-
 -- a node whose disk has this name is that one
-pub owner : (g : Setting) (n : Node) (disk : DiskName) → IsNode g n → IsDiskOf g.config n disk → node_with g disk ≡ n
+pub owner : (g : Setting) (n : Node) (disk : DiskName) → IsNode g n → Mem disk (names_of g.config n) → node_with g disk ≡ Some n
 owner g h k is has = grind arith
 
 -- and that name is one of the setting's
-pub of_setting : (g : Setting) (n : Node) (disk : DiskName) → IsNode g n → IsDiskOf g.config n disk → stores.IsDisk g disk
+pub of_setting : (g : Setting) (n : Node) (disk : DiskName) → IsNode g n → Mem disk (names_of g.config n) → IsDisk g disk
 of_setting g h k is has = grind arith
 
--- no node has the topology's
-pub no_node : (config : Config) (n : Node) → IsDiskOf config n name.Topology → ⊥
-no_node config h has = grind arith
+-- a joiner's disks have the names of its seat
+seat_is : (g : Setting) (s j : ℕ) → s < 2 → j < g.config.joiners → (site_of g.config (joiner_of g s j) ≡ s) × (place_at g.config (joiner_of g s j) ≡ j)
+seat_is g s j s_below j_below =
+    let is = is_joiner g s j s_below j_below in
+    let seat = seat_of g.config (joiner_of g s j) is.0 is.1 in
+    one_seat g _ _ s j seat.site_below seat.place_below s_below j_below seat.number
 
--- the disks of a node have its names
-pub names_of : {D : Type 0} (image : D → List ℕ → Type 0) (config : Config) (n : Node) (t : StateOf n) (lent : List (Lent D)) → HoldsAs image config n t lent → (l : Lent D) → Mem l lent → IsDiskOf config n l.name
-names_of {D} image config k t lent h l m = grind arith
+-- a disk of the setting has a name of its node's
+pub has_name : (g : Setting) (disk : DiskName) (n : Node) → IsDisk g disk → node_with g disk ≡ Some n → Mem disk (names_of g.config n)
+has_name g disk n here own = grind (arith, seat_is)
+
+-- no node has the topology's
+pub no_owner : (g : Setting) (disk : DiskName) → node_with g disk ≡ None → disk ≡ name.Topology
+no_owner g disk none = grind arith
+
+-- a node's disks have names of their own
+pub names_apart : (config : Config) (n : Node) → EachPair (λ one other. one ≢ other) (names_of config n)
+names_apart config n = grind arith

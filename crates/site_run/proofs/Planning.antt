@@ -6,7 +6,6 @@ use Rattle.outside.specs.Plans.{AtMost}
 use Rattle.outside.specs.declared.store.DiskName.{DiskName}
 use Rattle.outside.specs.declared.store.DiskName.TheVariants as name
 use Rattle.site_store.specs.Plans.{AllAsPlanned, HasSoon, IsAsPlanned}
-use Rattle.site_store.proofs.Lending.{each_weaker}
 use Rattle.site_store.proofs.Planned.{each_calm, same_left}
 use Rattle.run_fault.specs.declared.fault.StorePlace.{StorePlace}
 use Rattle.run_fault.specs.declared.fault.RunFault.TheVariants as fault
@@ -17,10 +16,11 @@ use Rattle.site_workers.specs.FourKinds as one
 use Rattle.site_workers.specs.declared.one_of.OneOf.TheVariants as node
 use Rattle.site_run.specs.Naming.{names_of, joiner_of}
 use Rattle.site_run.specs.Stops.{AllInAll, ArePlanned, AreSpared, RunsAsPlanned, StopsAsPlanned}
-use Rattle.site_run.proofs.Words.{list_any, Each, Mem, each_at, each_from, AreUp, HasMet, RunFault, first_fault, of_node, Lent, OneOf, BusEntry, Begin, End, Stop, NodeFault, Setting, Disks, Node, Joiner, IsNode, NumbersAreNodes, StateOf, AnyState, node_number, node_count, down_over, made_by, all_from, site_of, is_stop, stop_count, HoldsAs, AreHeld, AreDownOver, NoJoinerStopped, RunLog, Config}
+use Rattle.site_run.proofs.Words.{list_any, Each, Mem, each_at, each_from, each_more, AreUp, HasMet, RunFault, first_fault, of_node, Lent, OneOf, BusEntry, Begin, End, Stop, NodeFault, Setting, Disks, Node, Joiner, IsNode, NumbersAreNodes, AnyState, node_number, node_count, down_over, made_by, all_from, site_of, is_stop, stop_count, AreHeld, AreDownOver, NoJoinerStopped, RunLog, Config}
 use Rattle.site_run.proofs.Going.{disks_by}
 use Rattle.site_run.proofs.Places.{at_place, from_place}
-use Rattle.site_run.proofs.Running.{some_of, told_of_node}
+use Rattle.site_run.proofs.Lists.{some_of}
+use Rattle.site_run.proofs.Running.{told_of_node}
 
 -- ---- the stops of config
 
@@ -66,9 +66,6 @@ pub none_planned : {A : Type 0} (o : Option RunLog) (left : DiskName → ℕ →
 none_planned o left soon g before after r none calm spared = record { stops = subst (λ (x : Option RunLog). IfSome x (λ l. StopsAsPlanned left g l.air.history)) (sym none) tt; calm = calm; spared = spared }
 
 -- ---- a node's disks, by what is planned under their names
-
-named_so : {D : Type 0} (image : D → List ℕ → Type 0) (config : Config) (n : Node) (t : StateOf n) (lent : List (Lent D)) → HoldsAs image config n t lent → map (λ (l : Lent D). l.name) lent ≡ names_of config n
-named_so {D} image config h t lent holds = grind arith
 
 -- a node that stopped once at most names no place of the store
 not_ended : (config : Config) (number : ℕ) (nf : NodeFault) (left stops : ℕ) → left + stops + open_stops (Some nf) ≤ 1 → (nf ≡ node_fault.Stopped → stops ≡ 8) → (at : StorePlace) → of_node config number nf ≢ fault.Store at
@@ -124,7 +121,7 @@ module _ {N D : Type 0} (stops : D → ℕ → Bool) (made disk_faults : D → �
     pub all_up : ((i : ℕ) (b : N × Option NodeFault) → i < length ws → waits (slice_index_or ws i b).0 ≡ false) → AreUp is_down (all_from (λ i (w : N × Option NodeFault). disks_of config i w.0) 0 ws)
     all_up up =
         at_end (λ (l : Lent D). l.name ≢ name.Topology → is_down l.disk ≡ false)
-        (λ i b below. each_weaker (λ (l : Lent D). is_down l.disk ≡ false) (λ (l : Lent D). l.name ≢ name.Topology → is_down l.disk ≡ false) (λ l is other. is) (disks_of config i (slice_index_or ws i b).0) (laws.up config i (slice_index_or ws i b).0 (up i b below)))
+        (λ i b below. each_more (λ (l : Lent D). is_down l.disk ≡ false) (λ (l : Lent D). l.name ≢ name.Topology → is_down l.disk ≡ false) (disks_of config i (slice_index_or ws i b).0) (λ l is other. is) (laws.up config i (slice_index_or ws i b).0 (up i b below)))
 
     module _ (count : length ws ≡ length vs) (up : All (λ v. waits v ≡ false) vs) where
       -- where no stop is planned all disks are up, and met no fault
@@ -144,7 +141,7 @@ module _ {N D : Type 0} (stops : D → ℕ → Bool) (made disk_faults : D → �
           let below : j < length vs = let under = numbers.below n is in omega (arith, under, count) in
           let a = some_of vs (omega (arith, below)) in
           let v = slice_index_or vs j a in
-          let named = named_so image config n (down_over g d n) (disks_of config j v) (held.held config n (down_over g d n) v (down n is a)) ∙ ap (λ c. names_of c n) (sym same) in
+          let named = (held.held config n (down_over g d n) v (down n is a)).named ∙ ap (λ c. names_of c n) (sym same) in
           (kept j a b below).most k (at_first j a k below (subst (λ names. AllInAll left names k) (sym named) has))
 
       -- no node stops more often than was planned for its disks
@@ -196,22 +193,13 @@ module _ {D A B C E : Type 0} (image : D → List ℕ → Type 0) (stops : D →
     left_of config number k (node.Fourth v) h = (h.0, h.3.0, h.2, h.3.2, omega (arith, h.4, h.3.4, h.3.3))
 
     none_of_it : (config : Config) (number : ℕ) (v : OneOf A B C E) → Each (λ (l : Lent D). faults l.disk ≡ 0) (disks_by image offset retry server replica epochs outputs config number v) → faults_by v ≡ 0
-    none_of_it config number (node.First v) h = let x = h.0 in let y = h.1.0 in omega (arith, x, y)
-    none_of_it config number (node.Second v) h = h.0
-    none_of_it config number (node.Third v) h = h.0
-    none_of_it config number (node.Fourth v) h = let x = h.0 in let y = h.1.0 in omega (arith, x, y)
+    none_of_it config number v h = grind arith
 
     calm_of : (config : Config) (number : ℕ) (v : OneOf A B C E) → faults_by v ≡ 0 → Each (λ (l : Lent D). faults l.disk ≡ 0) (disks_by image offset retry server replica epochs outputs config number v)
-    calm_of config number (node.First v) none = (omega (arith, none), (omega (arith, none), tt))
-    calm_of config number (node.Second v) none = (none, tt)
-    calm_of config number (node.Third v) none = (none, tt)
-    calm_of config number (node.Fourth v) none = (omega (arith, none), (omega (arith, none), tt))
+    calm_of config number v none = grind arith
 
     up_of : (config : Config) (number : ℕ) (v : OneOf A B C E) → waits_by v ≡ false → Each (λ (l : Lent D). is_down l.disk ≡ false) (disks_by image offset retry server replica epochs outputs config number v)
-    up_of config number (node.First v) w = ((ups v w).0, ((ups v w).1, tt))
-    up_of config number (node.Second v) w = (up v w, tt)
-    up_of config number (node.Third v) w = (up_too v w, tt)
-    up_of config number (node.Fourth v) w = ((ups_too v w).0, ((ups_too v w).1, tt))
+    up_of config number v w = grind arith
 
     pub are_planned : ArePlanned stops made faults is_down left_by faults_by waits_by (disks_by image offset retry server replica epochs outputs)
     are_planned = record { left = left_of; none = none_of_it; calm = calm_of; up = up_of }

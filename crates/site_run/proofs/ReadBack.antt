@@ -1,7 +1,7 @@
 -- What is read back of the disks of nodes at rest is the nodes' records.
-use Rattle.std.proofs.Common.{◌≡◌, ℕ, zero, suc, ◌+◌, ◌-◌, ◌*◌, ◌<◌, ◌≤◌, List, [], ◌∷◌, ◌++◌, length, map, slice_index_or, Bool, false, cond, IsTrue, Option, None, Some, refl, sym, ap, ◌∙◌, subst, arith, lit<, lit≤, append_assoc}
+use Rattle.std.proofs.Common.{◌≡◌, ℕ, zero, suc, ◌+◌, ◌-◌, ◌*◌, ◌<◌, ◌≤◌, List, [], ◌∷◌, ◌++◌, length, map, drop, slice_index_or, Bool, false, cond, IsTrue, Option, None, Some, refl, sym, ap, ◌∙◌, subst, arith, lit<, lit≤, append_assoc}
 use Rattle.std.specs.Prelude.{filter}
-use Rattle.site_run.proofs.Words.{All-nil, append-nil, filter-append, DiskName, ReplicaNote, note_view, PairRec, KeepsPairs, IsPair, Node, Dispatcher, Server, Replica, Joiner, Setting, first_joiner, IsNode, NumbersAreNodes, node_count, node_number, node_of, Config, BallotNote, ReplicaKept, notes_kept, journals_of, values_from, Disks, AreOf, Lent, KeepsNotes, StateOf, KeptOf, kept_of, all_from, EachWith, is_replica, is_output, each_with_append, Journals, notes_of, KeepsVotes, HoldsRecords, HoldSameRecords, ReadNotesAreKept, KeepsAs, AllKeep, lent_replicas, lent_outputs, AreKeptIn}
+use Rattle.site_run.proofs.Words.{All-nil, append-nil, filter-append, DiskName, ReplicaNote, note_view, PairRec, KeepsPairs, IsPair, Node, Replica, Joiner, Setting, first_joiner, IsNode, NumbersAreNodes, node_count, node_number, node_of, Config, BallotNote, ReplicaKept, notes_kept, journals_of, values_from, Disks, AreOf, Lent, KeepsNotes, StateOf, KeptOf, kept_of, all_from, EachWith, is_replica, is_output, each_with_append, Journals, notes_of, KeepsVotes, HoldsRecords, HoldSameRecords, ReadNotesAreKept, KeepsFor, KeepsAs, AllKeep, lent_replicas, lent_outputs, AreKeptIn}
 use Rattle.outside.specs.declared.store.DiskName.TheVariants as name
 use Rattle.site_laws.specs.Stores.{Bytes}
 
@@ -74,6 +74,10 @@ module _ {D V : Type 0} (image : D → List ℕ → Type 0) (keeps : V → List 
     -- those behind others
     joined : (xs ys : List (Lent D)) (as_ bs : List V) → KeepValues (chosen xs) as_ → KeepValues (chosen ys) bs → KeepValues (chosen (xs ++ ys)) (as_ ++ bs)
     joined xs ys as_ bs a b = grind (arith, filter-append, each_with_append)
+
+    -- a disk in front whose name isn't chosen
+    with_front : (topology : Lent D) (disks : List (Lent D)) (vs : List V) → p topology.name ≡ false → KeepValues (chosen disks) vs → KeepValues (chosen (topology ∷ disks)) vs
+    with_front topology disks vs not_chosen h = subst (λ b. KeepValues (cond b (topology ∷ chosen disks) (chosen disks)) vs) (sym not_chosen) h
 
     -- the disks of nodes from this number on, each of which keeps the values of its number
     from_number : {N : Type 0} (disks_of : ℕ → N → List (Lent D)) (values : ℕ → List V) (i : ℕ) (ns : List N)
@@ -159,16 +163,12 @@ module _ {N D V : Type 0} (image : D → List ℕ → Type 0) (disks_of : ℕ �
       subst (λ m. KeepValues image keeps (chosen image keeps p (disks_of m (slice_index_or nodes k a))) (values_at m)) same
       (subst (λ m. KeepValues image keeps (chosen image keeps p (disks_of m (slice_index_or nodes m a))) (values_at m)) back.0 own)))
 
-  -- a disk in front whose name isn't chosen
-  with_front : (topology : Lent D) (disks : List (Lent D)) (vs : List V) → p topology.name ≡ false → KeepValues image keeps (chosen image keeps p disks) vs → KeepValues image keeps (chosen image keeps p (topology ∷ disks)) vs
-  with_front topology disks vs not_chosen h = subst (λ b. KeepValues image keeps (cond b (topology ∷ chosen image keeps p disks) (chosen image keeps p disks)) vs) (sym not_chosen) h
-
   -- so what all are read as are the values of all nodes
   all_read : {W : Type 0} (tells : Bool) → IsTrue tells → (reads : List W → List ℕ → Type 0) (view : List W → V) → ((ws : List W) (v : V) (c : List ℕ) → reads ws c → keeps v c → view ws ≡ v)
       → (nodes : List N) (topology : Lent D) (lists : List (List W)) → AllKeep image disks_of g at nodes → p topology.name ≡ false → AreKeptIn tells image reads (chosen image keeps p (topology ∷ all_from disks_of 0 nodes)) lists
       → map view lists ≡ all_values
   all_read tells on reads view one nodes topology lists all not_chosen read =
-      read_as image keeps tells on reads view one (chosen image keeps p (topology ∷ all_from disks_of 0 nodes)) all_values lists (with_front topology (all_from disks_of 0 nodes) all_values not_chosen (of_all nodes all)) read
+      read_as image keeps tells on reads view one (chosen image keeps p (topology ∷ all_from disks_of 0 nodes)) all_values lists (with_front image keeps p topology (all_from disks_of 0 nodes) all_values not_chosen (of_all nodes all)) read
 
 -- ---- the notes and the pairs of a node
 
@@ -176,16 +176,12 @@ abbrev KeepsNoteList : List BallotNote → List ℕ → Type 0
 KeepsNoteList notes c = KeepsVotes (record { notes = notes }) c
 
 abbrev its_notes : (n : Node) → KeptOf n → List (List BallotNote)
-its_notes (Dispatcher s) k = []
-its_notes (Server s) k = []
 its_notes (Replica r) k = k.notes ∷ []
-its_notes (Joiner j) k = []
+its_notes _ k = []
 
 abbrev its_pairs : (n : Node) → KeptOf n → List (List PairRec)
-its_pairs (Dispatcher s) k = []
-its_pairs (Server s) k = []
-its_pairs (Replica r) k = []
 its_pairs (Joiner j) k = k.pairs ∷ []
+its_pairs _ k = []
 
 module _ {D : Type 0} (image : D → List ℕ → Type 0) (config : Config) where
   abbrev HaveNotes : List (List BallotNote) → List (Lent D) → Type 0
@@ -194,13 +190,27 @@ module _ {D : Type 0} (image : D → List ℕ → Type 0) (config : Config) wher
   abbrev HavePairs : List (List PairRec) → List (Lent D) → Type 0
   HavePairs values lent = KeepValues image KeepsPairs (chosen image KeepsPairs is_output lent) values
 
+  first_is : (l : Lent D) (ls : List (Lent D)) (n : DiskName) (ns : List DiskName) → map (λ x. x.name) (l ∷ ls) ≡ n ∷ ns → l.name ≡ n
+  first_is l ls n ns is = cc is
+
   notes_in : (n : Node) (t : StateOf n) (lent : List (Lent D)) → KeepsAs image config n t lent → HaveNotes (its_notes n t.kept) lent
-  notes_in (Replica r) t lent h = subst (HaveNotes (t.kept.notes ∷ [])) (sym h.named) (h.votes, tt)
-  notes_in _ t lent h = subst (HaveNotes []) (sym h.named) tt
+  notes_in (Replica r) t (l ∷ []) h =
+      let is = first_is l [] _ _ h.named in
+      subst (λ b. KeepValues image KeepsNoteList (cond b (l ∷ []) []) (t.kept.notes ∷ [])) (sym (ap is_replica is)) (λ c here. subst (λ m. KeepsFor (Replica r) t.kept m c) is (h.keeps.0 c here), tt)
+  notes_in n t [] h = grind arith
+  notes_in n t (l ∷ []) h = grind arith
+  notes_in n t (l ∷ m ∷ []) h = grind arith
+  notes_in n t (l ∷ m ∷ o ∷ ls) h = grind arith
 
   pairs_in : (n : Node) (t : StateOf n) (lent : List (Lent D)) → KeepsAs image config n t lent → HavePairs (its_pairs n t.kept) lent
-  pairs_in (Joiner j) t lent h = subst (HavePairs (t.kept.pairs ∷ [])) (sym h.named) (h.pairs, tt)
-  pairs_in _ t lent h = subst (HavePairs []) (sym h.named) tt
+  pairs_in (Joiner j) t (l ∷ m ∷ []) h =
+      let is = first_is m [] _ _ (ap (λ ns. drop 1 ns) h.named) in
+      let own = subst (λ b. KeepValues image KeepsPairs (cond b (m ∷ []) []) (t.kept.pairs ∷ [])) (sym (ap is_output is)) (λ c here. subst (λ n. KeepsFor (Joiner j) t.kept n c) is (h.keeps.1.0 c here), tt) in
+      with_front image KeepsPairs is_output l (m ∷ []) (t.kept.pairs ∷ []) (ap is_output (first_is l (m ∷ []) _ _ h.named)) own
+  pairs_in n t [] h = grind arith
+  pairs_in n t (l ∷ []) h = grind arith
+  pairs_in n t (l ∷ m ∷ []) h = grind arith
+  pairs_in n t (l ∷ m ∷ o ∷ ls) h = grind arith
 
 map_same : {A : Type 0} (xs : List A) → map (λ x. x) xs ≡ xs
 map_same [] = refl

@@ -1,13 +1,12 @@
 -- Why a run over a store gives up, from what opening it tells and what a run of its nodes does.
 use Rattle.std.specs.Prelude.{IsTrue, IfSome, IsSomeAnd, Result, Ok, Err, OnOk, IfErr}
-use Rattle.std.proofs.Common.{◌≡◌, ◌≢◌, inl, inr, ⊎_elim, ℕ, ◌==◌, if◌then◌else◌, List, [], ◌∷◌, map, Bool, true, false, Option, Some, None, refl, sym, ◌∙◌, ap, subst, arith}
+use Rattle.std.proofs.Common.{◌≡◌, ◌≢◌, inl, inr, ⊎_elim, ℕ, List, [], ◌∷◌, map, Bool, true, Option, Some, None, refl, sym, ◌∙◌, ap, subst, arith}
 use Rattle.site_run.proofs.Words.{eq-eqb, Each, Mem, each_at, BusEntry, DiskName, StoreFault, Topology, end_from, Dispatcher, Server, Replica, Joiner, Node, IsNode, node_number, Setting, IsLogOf, Disks, RunFault, Misplaced, IsCounted, IsWelcome, of_place, limit_at, limit_in, IsKeptIn, IsJournalOf, other_names, Images, IsDisk, joiner_of, place_at, site_of, IsAsked, EpochIs, KeepsEpoch, KeptDisk, KeptEpoch, KeptValues, Says, AreRecordsOf, all_named, at_name, was_journal, AreTold, ArePassed, IsCause, cause_more, failed_rose, passed_more, unread_rose, asked_of, HasPassed, IsCauseOf, IsLate, IsNearLast, IsOfRun, IsSpent, KeptAreJournals, NamesFailed, RunLog, TellsPlaces, disk_of}
 use Rattle.outside.specs.declared.store.DiskName.TheVariants as name
 use Rattle.outside.specs.declared.faults.StoreFault.TheVariants as store
 use Rattle.run_fault.specs.declared.fault.StorePlace.{StorePlace}
 use Rattle.run_fault.specs.declared.fault.StorePlace.TheVariants as place
 use Rattle.run_fault.specs.declared.fault.RunFault.TheVariants as fault
-use Rattle.site_store.specs.Misfits.{or_else}
 use Rattle.site_node.specs.declared.kind.NodeDisk.TheVariants.{First}
 use Rattle.site_run.proofs.Naming.{disk_is}
 use Rattle.site_run.proofs.Places.{of_setting, owner}
@@ -50,21 +49,12 @@ refusal_counted tells before replicas rose log_tells log end_ read asked logs st
 
 -- ---- no epoch that was opened is the last one
 
-rest_none : (b : Bool) (m : RunFault) (rest : Option RunFault) → (if b then Some m else rest) ≡ None → (b ≡ false) × (rest ≡ None)
-rest_none true m rest is = absurd (cc is)
-rest_none false m rest is = (refl, is)
-
-both_none : (m later : Option RunFault) → or_else m later ≡ None → (m ≡ None) × (later ≡ None)
-both_none None later is = (refl, is)
-both_none (Some m) later is = absurd (cc is)
-
 none_at : (disks : List KeptDisk) → limit_in disks ≡ None → (d : KeptDisk) → Mem d disks → limit_at d.name d.kept ≡ None
 none_at [] none d m = absurd m
-none_at (o ∷ os) none d (inl is) = subst (λ (x : KeptDisk). limit_at x.name x.kept ≡ None) is (both_none (limit_at o.name o.kept) (limit_in os) none).0
-none_at (o ∷ os) none d (inr m) = none_at os (both_none (limit_at o.name o.kept) (limit_in os) none).1 d m
+none_at (o ∷ os) none d h = grind (arith, none_at os)
 
 not_last : (n : DiskName) (epoch : ℕ) → limit_at n (EpochIs epoch) ≡ None → epoch ≢ 4294967294
-not_last n epoch none last = absurd (cc (sym (eq-eqb epoch 4294967294 last) ∙ (rest_none (epoch == 4294967294) (fault.Limit n 4294967294) None none).0))
+not_last n epoch none last = grind (arith, eq-eqb)
 
 module _ (g : Setting) (before : Images) (disks : List KeptDisk) (limits : limit_in disks ≡ None) (kept : Each (IsKept before) disks) (d : Disks) (records : AreRecordsOf g disks d)
     (named : map (λ (k : KeptDisk). k.name) disks ≡ other_names g.config.joiners g.config.replicas) where
@@ -74,7 +64,7 @@ module _ (g : Setting) (before : Images) (disks : List KeptDisk) (limits : limit
 
   of_disk : (disk : DiskName) (epoch : ℕ) → IsDisk g disk → disk ≢ name.Topology → ((k : kinds.Kept) → Says g d disk k → k ≡ EpochIs epoch) → KeptLess disk epoch
   of_disk disk epoch here other said =
-      let o = at_name disks disk (subst (λ (l : List DiskName). Mem disk l) (sym named) (all_named g disk here other)) in
+      let o = at_name (λ (d : KeptDisk). d.name) disks disk (subst (λ (l : List DiskName). Mem disk l) (sym named) (all_named g disk here other)) in
       let is = said o.0.kept (subst (λ (m : DiskName). Says g d m o.0.kept) o.2 (each_at (λ (k : KeptDisk). Says g d k.name k.kept) disks records o.0 o.1)) in (
         not_last o.0.name epoch (subst (λ k. limit_at o.0.name k ≡ None) is (none_at disks limits o.0 o.1)),
         subst (λ (m : DiskName). IsKeptIn (before m) (KeepsEpoch epoch)) o.2 (subst (λ k. IsKeptIn (before o.0.name) (KeepsAs k)) is (each_at (IsKept before) disks kept o.0 o.1)),
@@ -87,9 +77,9 @@ module _ (g : Setting) (before : Images) (disks : List KeptDisk) (limits : limit
   of_node (Joiner j) epoch is had =
       let site = site_of g.config j in
       let seat = place_at g.config j in
-      let number : joiner_of g site seat ≡ j = cc (owner g (Joiner j) (name.Epoch site seat) is (refl, refl)) in
+      let number : joiner_of g site seat ≡ j = cc (owner g (Joiner j) (name.Epoch site seat) is (inl refl)) in
       subst (λ m. KeptLess m epoch) (sym (disk_is g (Joiner j) is First))
-      (of_disk (name.Epoch site seat) epoch (of_setting g (Joiner j) (name.Epoch site seat) is (refl, refl)) (λ e. cc e) (λ k says. says ∙ ap EpochIs (ap (λ m. (d.joiners m).epoch) number ∙ had)))
+      (of_disk (name.Epoch site seat) epoch (of_setting g (Joiner j) (name.Epoch site seat) is (inl refl)) (λ e. cc e) (λ k says. says ∙ ap EpochIs (ap (λ m. (d.joiners m).epoch) number ∙ had)))
 
   -- so a node that came to it has met a fault, and its disk kept one near it
   late : (h : List BusEntry) (rose faulted : Type 0) → (rose → faulted) → (disk : DiskName) (epoch : ℕ) → IsSpent g h d rose disk epoch → (faulted × IsNearLast g before disk) × (epoch ≡ 4294967294)

@@ -1,13 +1,15 @@
 -- A node without an open turn keeps on each of its disks alone what its state says.
 use Rattle.std.proofs.Common.{◌≡◌, ℕ, List, Option, Some, None, refl, arith}
-use Rattle.site_run.proofs.Words.{Each, JournalState, Ready, KeepsOffset, KeepsPending, KeepsEpoch, KeepsPairs, Node, Dispatcher, Server, Replica, Joiner, node_number, Config, DispatchNote, DispatcherState, RegistrarView, ServerState, VoterView, ReplicaState, IsVoted, JoinerState, Doubt, StateOf, OneOf, AnyState, any_of, KeepsVotes, HasSpelledNotes, IsClosed, KeepsAs}
+use Rattle.site_run.proofs.Words.{Each, JournalState, Ready, KeepsOffset, KeepsPending, KeepsEpoch, KeepsPairs, Node, Dispatcher, Server, Replica, Joiner, node_number, Config, DispatchNote, DispatcherState, RegistrarView, ServerState, VoterView, ReplicaState, IsVoted, JoinerState, Doubt, StateOf, OneOf, AnyState, any_of, KeepsVotes, IsClosed, KeepsAs}
 use Rattle.dispatch_node.specs.Node as dispatcher
 use Rattle.registry_server.specs.Node as server
 use Rattle.replica_node.specs.Node as replica
 use Rattle.joiner_node.specs.Node as joiner
 use Rattle.site_workers.specs.FourKinds as one
 use Rattle.site_workers.specs.declared.one_of.OneOf.TheVariants as node
+use Rattle.outside.specs.declared.store.DiskName.TheVariants as name
 use Rattle.site_run.proofs.Going.{disks_by}
+use Rattle.site_run.proofs.Holding.{one_name}
 
 -- ---- by the kind of node
 
@@ -71,19 +73,10 @@ module _ {D A B C E : Type 0} (image : D → List ℕ → Type 0) (offset retry 
       → KeepsAs image config n t (disks_by image offset retry server_disk replica_disk epochs outputs config (node_number n) v)
   keeps_as rests config (Dispatcher s) t (node.First v) closed at =
       let kept = rests.dispatchers v (record { site = s; node = t }) at closed in
-      record { offset = offset v; retry = retry v; named = refl; offsets = kept.0; pending = kept.1 }
-  keeps_as rests config (Server s) t (node.Second v) closed at = record { disk = server_disk v; named = refl; epochs = rests.servers v _ at closed }
-  keeps_as rests config (Replica r) t (node.Third v) closed at = record { disk = replica_disk v; named = refl; votes = rests.replicas v t at closed }
+      record { named = refl; keeps = (kept.0, (kept.1, tt)) }
+  keeps_as rests config (Server s) t (node.Second v) closed at = record { named = one_name (λ m. name.Server m) 2 s; keeps = (rests.servers v _ at closed, tt) }
+  keeps_as rests config (Replica r) t (node.Third v) closed at = record { named = one_name (λ m. name.Replica m) 4 r; keeps = (rests.replicas v t at closed, tt) }
   keeps_as rests config (Joiner j) t (node.Fourth v) closed at =
       let kept = rests.joiners v (record { number = j; node = t }) at closed in
-      record { epochs = epochs v; outputs = outputs v; named = refl; epoch = kept.0; pairs = kept.1 }
+      record { named = refl; keeps = (kept.0, (kept.1, tt)) }
   keeps_as rests config _ t _ closed at = absurd at
-
--- ---- the notes of a replica
-
-module _ {A B C E : Type 0} (a_stands : A → DispatcherState → Type 0) (b_stands : B → ServerState → Type 0) (c_stands : C → ReplicaState → Type 0) (e_stands : E → JoinerState → Type 0) where
-  pub notes_spelled : ((v : C) (s : ReplicaState) → c_stands v s → Each IsVoted s.kept.notes) → (n : Node) (t : StateOf n) (v : OneOf A B C E)
-      → one.at a_stands b_stands c_stands e_stands v (any_of n t) → HasSpelledNotes n t
-  notes_spelled voted (Replica r) t (node.Third v) at = voted v t at
-  notes_spelled voted (Replica r) t _ at = absurd at
-  notes_spelled voted _ t v at = tt

@@ -1,7 +1,7 @@
 -- From what a run leaves of each node to what it leaves of the store.
 use Rattle.std.specs.Prelude.{IsTrue, IsSome, option_map}
 use Rattle.std.proofs.Common.{◌≡◌, ◌≢◌, inl, inr, ⊎_elim, ℕ, zero, suc, ◌+◌, ◌<◌, ◌≤◌, List, [], ◌∷◌, ◌++◌, length, map, slice_index_or, Bool, true, false, Option, None, Some, refl, sym, ap, ◌∙◌, subst, arith, length-append}
-use Rattle.site_run.proofs.Words.{list_any, Mem, some_same, is_in_turn, DiskName, NamesFailed, disk_of, is_read, BusEntry, Begin, End, Stop, Bytes, Busy, Node, Dispatcher, Server, Replica, Setting, IsNode, NumbersAreNodes, node_number, node_count, phase_by, NodeFault, World, Disks, disks, world_after, opening, NoJoinerStops, AreOf, RunFault, damaged_by, IsJournalOf, undamaged, Lent, IsOfOne, MayBeLeft, GoesOn, StateOf, kept_of, cell_of, made_by, HasMet, IsCaused, is_stop, stop_count, AreCaused, HasFault, AnyState, any_of, any_phase, IsRunFrom, HaveGrown, ComesToLast, all_from, topology_of, Images, IsDisk, AreKept, KeepsOf, KeepsTopology, Journals, Config, votes_are_notes, IsCounted, of_node, IsOfDisks, IsOfRun, IsSpent, RunLog, HoldsAs, HaveGoneOn, AllHold, AreHeld, AreMet, IsLeftBy, KeepsItsRecord, NoneStops, HasRun, HasRested, AreOut, IsClosed, KeepsAs, AllKeep, KeepsPairs, KeepsNotes, HoldSameRecords, ReadNotesAreKept, told_of, or_else, first_fault, lent_replicas, lent_outputs, AreKeptIn}
+use Rattle.site_run.proofs.Words.{length-map, list_any, Mem, some_same, is_in_turn, DiskName, NamesFailed, disk_of, is_read, BusEntry, Bytes, Busy, Node, Dispatcher, Setting, IsNode, NumbersAreNodes, node_number, node_count, phase_by, NodeFault, World, Disks, disks, world_after, opening, NoJoinerStops, AreOf, RunFault, damaged_by, IsJournalOf, undamaged, Lent, IsOfOne, MayBeLeft, GoesOn, StateOf, kept_of, cell_of, made_by, HasMet, IsCaused, is_stop, stop_count, AreCaused, HasFault, AnyState, any_of, any_phase, IsRunFrom, HaveGrown, ComesToLast, all_from, topology_of, Images, IsDisk, AreKept, KeepsOf, node_with, KeepsTopology, Journals, Config, journal_of, by_topology, IsCounted, of_node, IsOfDisks, IsOfRun, IsSpent, RunLog, HoldsAs, HaveGoneOn, AllHold, AreHeld, AreMet, IsLeftBy, KeepsItsRecord, NoneStops, HasRun, HasRested, AreOut, IsClosed, KeepsAs, AllKeep, KeepsPairs, KeepsNotes, HoldSameRecords, ReadNotesAreKept, told_of, or_else, first_fault, lent_replicas, lent_outputs, AreKeptIn}
 use Rattle.outside.specs.declared.store.DiskName.TheVariants as name
 use Rattle.site_node.specs.declared.kind.NodeFault.TheVariants as node
 use Rattle.run_fault.specs.declared.fault.StorePlace.TheVariants as at
@@ -12,11 +12,13 @@ use Rattle.site_run.proofs.Naming.{disk_among, log_is}
 use Rattle.site_node.specs.declared.kind.NodeDisk.TheVariants.{First}
 use Rattle.site_node.specs.declared.kind.SiteNode.{Ghosts}
 use Rattle.site_run.specs.Naming.{names_of}
-use Rattle.site_run.proofs.Keeping.{keeps, none_lacks, disk_there, topology_image}
+use Rattle.site_run.proofs.Lists.{some_of}
+use Rattle.site_run.proofs.Keeping.{all_kept, disk_there, lacks_none, topology_image}
 use Rattle.site_run.proofs.Outing.{given_goes_on, gone_out}
 use Rattle.site_run.proofs.Places.{at_place}
 use Rattle.site_run.proofs.ReadBack.{read_is}
 use Rattle.site_run.proofs.Reading.{all_keep}
+use Rattle.site_run.proofs.Walking.{phase_is}
 use Rattle.run_fault.specs.declared.fault.RunFault.TheVariants as run
 
 -- ---- a node with no open turn
@@ -26,23 +28,16 @@ closed_by live None is = refl
 closed_by live (Some b) is = absurd (is refl)
 
 closed_of : (n : Node) (t : StateOf n) → any_phase (any_of n t) ≢ Busy → IsClosed n t
-closed_of (Dispatcher s) t is = closed_by t.live t.opened is
-closed_of _ t is = closed_by t.live t.opened is
+closed_of n t is = closed_by t.live t.opened (λ busy. is (phase_is n t ∙ busy))
 
 kept_same : (w : World) (n : Node) → kept_of (disks w) n ≡ (cell_of w n).kept
 kept_same w (Dispatcher s) = refl
 kept_same w _ = refl
 
-pub some_of : {A : Type 0} (xs : List A) → 0 < length xs → A
-some_of [] l = absurd (omega (arith, l))
-some_of (x ∷ xs) l = x
-
 -- entries that count a stop have one
 some_counted : (es : List BusEntry) → 1 ≤ stop_count es → list_any is_stop es ≡ true
 some_counted [] some = absurd (omega (arith, some))
-some_counted (Begin node input ∷ es) some = some_counted es some
-some_counted (End node noted packets kept ∷ es) some = some_counted es some
-some_counted (Stop node landed ∷ es) some = refl
+some_counted (e ∷ es) some = grind (arith, some_counted es)
 
 -- ---- the node of the first fault
 
@@ -54,13 +49,10 @@ record IsToldAt {N : Type 0} (config : Config) (first : ℕ) (ws : List (N × Op
   counted : number ≡ first + place
   told : (b : N × Option NodeFault) → (fault : NodeFault) × ((slice_index_or ws place b).1 ≡ Some fault) × (f ≡ of_node config number fault)
 
-told_later : {N : Type 0} (config : Config) (first : ℕ) (w : N × Option NodeFault) (ws : List (N × Option NodeFault)) (f : RunFault) → IsToldAt config (suc first) ws f → IsToldAt config first (w ∷ ws) f
-told_later config first w ws f r = record { place = suc r.place; number = r.number; within = omega (arith, r.within); counted = omega (arith, r.counted); told = λ b. r.told b }
-
 -- of the first node, or of a later one
 told_here : {N : Type 0} (config : Config) (first : ℕ) (w : N × Option NodeFault) (ws : List (N × Option NodeFault)) (f : RunFault) → (first_fault config (suc first) ws ≡ Some f → IsToldAt config (suc first) ws f)
     → (o : Option NodeFault) → w.1 ≡ o → or_else (told_of config first o) (first_fault config (suc first) ws) ≡ Some f → IsToldAt config first (w ∷ ws) f
-told_here config first w ws f later None none is = told_later config first w ws f (later is)
+told_here config first w ws f later None none is = let r = later is in record { place = suc r.place; number = r.number; within = omega (arith, r.within); counted = omega (arith, r.counted); told = λ b. r.told b }
 told_here config first w ws f later (Some fault) some is = record {
   place = 0;
   number = first;
@@ -105,12 +97,6 @@ told_of_node {N} config g numbers ws count f is =
 topology_kept : (t : Option Topology) (c : List ℕ) → KeepsTopology t c → IsJournalOf name.Topology c
 topology_kept t c keeps = (option_map (λ (u : Topology). journal.topology_of u.joiners u.table) t, keeps)
 
--- and what a disk of records keeps
-journal_of : (g : Setting) (d : Disks) (disk : DiskName) → disk ≢ name.Topology → IsDisk g disk → (c : List ℕ) → KeepsOf g d disk c → IsJournalOf disk c
-journal_of g d name.Topology other is c keeps = absurd (other refl)
-journal_of g d (name.Replica r) other is c keeps = (_, votes_are_notes (d.replicas r) c keeps)
-journal_of g d _ other is c keeps = (_, keeps)
-
 -- ---- what a run leaves
 
 module _ {N D : Type 0} (image : D → List ℕ → Type 0) (places : N → AnyState → Type 0) (grown : N → N → Type 0) (disks_of : Config → ℕ → N → List (Lent D)) (laws : AreHeld image places grown disks_of)
@@ -128,10 +114,10 @@ module _ {N D : Type 0} (image : D → List ℕ → Type 0) (places : N → AnyS
   }
 
   is_left : IsLeftBy image g topology (all_from disks_at 0 ws) after
-  is_left disk is c here = ⊎_elim (λ in_it. absurd (none_lacks image disks_at g left.at ws topology numbers hold kept.named disk is in_it.0)) (λ of. of) (by disk c here)
+  is_left disk is c here = ⊎_elim (λ in_it. absurd (lacks_none image disks_at g left.at ws topology numbers hold kept.named disk is (node_with g disk) refl in_it.0)) (λ of. of) (by disk c here)
 
   keeps_all : AreKept g left.at after
-  keeps_all = keeps image disks_at g left.at ws topology after numbers hold kept is_left
+  keeps_all = all_kept image disks_at g left.at ws topology numbers hold kept.named kept after is_left
 
   pub has_run : HasRun g d h after
   has_run = record { at = left.at; entries = left.entries; run = left.run; keeps = keeps_all }
@@ -193,17 +179,13 @@ module _ {N D : Type 0} (image : D → List ℕ → Type 0) (places : N → AnyS
     undamaged_now : (disk : DiskName) (at : ℕ) (c : List ℕ) → disk ≢ name.Topology → IsOfOne image (topology ∷ all_from disks_at 0 ws) disk c → damaged_by disk c at → ⊥
     undamaged_now disk at c other here =
         let is = disk_there image disks_at g left.at ws topology numbers hold kept.named disk other here.one here.among here.named in
-        undamaged disk c at (journal_of g (disks (world_after g (opening d) left.entries)) disk other is c
+        undamaged disk c at (journal_of g (disks (world_after g (opening d) left.entries)) disk other c
         (all_keep image disks_at g left.at ws topology numbers (keep resting) kept.named (disks (world_after g (opening d) left.entries)) (same resting) disk is c here))
 
     pub never_damaged : (disk : DiskName) (at : ℕ) (c : List ℕ) → IsOfOne image (topology ∷ all_from disks_at 0 ws) disk c → damaged_by disk c at → ⊥
-    never_damaged name.Topology at c here = undamaged name.Topology c at (topology_kept (Some (topology_of g)) c (kept.keeps c (topology_image image disks_at g left.at ws topology numbers hold kept.named c here)))
-    never_damaged (name.Offset s) at c here = undamaged_now (name.Offset s) at c (λ e. absurd (cc e)) here
-    never_damaged (name.Retry s) at c here = undamaged_now (name.Retry s) at c (λ e. absurd (cc e)) here
-    never_damaged (name.Server s) at c here = undamaged_now (name.Server s) at c (λ e. absurd (cc e)) here
-    never_damaged (name.Replica r) at c here = undamaged_now (name.Replica r) at c (λ e. absurd (cc e)) here
-    never_damaged (name.Epoch s j) at c here = undamaged_now (name.Epoch s j) at c (λ e. absurd (cc e)) here
-    never_damaged (name.Output s j) at c here = undamaged_now (name.Output s j) at c (λ e. absurd (cc e)) here
+    never_damaged disk at =
+        by_topology (λ disk. (c : List ℕ) → IsOfOne image (topology ∷ all_from disks_at 0 ws) disk c → damaged_by disk c at → ⊥)
+        (λ c here. undamaged name.Topology c at (topology_kept (Some (topology_of g)) c (kept.keeps c (topology_image image disks_at g left.at ws topology numbers hold kept.named c here)))) (λ disk other c here. undamaged_now disk at c other here) disk
 
     -- so a fault of reading them back is none of damage
     pub read_back_of : (log : RunLog) → log.air.history ≡ h → (faulted : Type 0) (f : RunFault) → (tells : Bool) → IsTrue tells → IsOfDisks tells image (topology ∷ all_from disks_at 0 ws) faulted f → IsOfRun g d faulted (Some log) f
@@ -298,10 +280,6 @@ at_first [] i a b l = absurd (omega (arith, l))
 at_first (w ∷ ws) zero a b l = refl
 at_first (w ∷ ws) (suc i) a b l = at_first ws i a b (omega (arith, l))
 
-firsts : {N : Type 0} (ws : List (N × Option NodeFault)) → length (map (λ (w : N × Option NodeFault). w.0) ws) ≡ length ws
-firsts [] = refl
-firsts (w ∷ ws) = ap suc (firsts ws)
-
 module _ {N D : Type 0} (image : D → List ℕ → Type 0) (places : N → AnyState → Type 0) (grown : N → N → Type 0) (disks_of : Config → ℕ → N → List (Lent D)) (laws : AreHeld image places grown disks_of)
     (g : Setting) (config : Config) (numbers : NumbersAreNodes g) (vs : List N) (ws : List (N × Option NodeFault)) (count_before : length vs ≡ node_count g) (count : length ws ≡ length vs) (grew : HaveGrown grown g vs ws) where
   abbrev olds : List (Lent D)
@@ -314,7 +292,7 @@ module _ {N D : Type 0} (image : D → List ℕ → Type 0) (places : N → AnyS
   have_gone_on =
       let firsts_of = map (λ (w : N × Option NodeFault). w.0) ws in
       subst (λ (l : List (Lent D)). HaveGoneOn image olds l) (same_from (disks_of config) 0 ws)
-      (all_nodes_gone_on image (disks_of config) g numbers vs firsts_of count_before (firsts ws ∙ count)
+      (all_nodes_gone_on image (disks_of config) g numbers vs firsts_of count_before (length-map ws (λ (w : N × Option NodeFault). w.0) ∙ count)
       (λ n is a c.
       let below : node_number n < length ws = let under = numbers.below n is in omega (arith, under, count_before, count) in
       let b = some_of ws (omega (arith, below)) in
@@ -384,18 +362,10 @@ first_ended {N} faults waits config h ws met f n is named =
 
 -- ---- where none is told no node has one
 
-or_none_both : (a b : Option RunFault) → or_else a b ≡ None → (a ≡ None) × (b ≡ None)
-or_none_both None b is = (refl, is)
-or_none_both (Some f) b is = absurd (cc is)
-
-not_told : (config : Config) (i : ℕ) (o : Option NodeFault) → told_of config i o ≡ None → o ≡ None
-not_told config i None is = refl
-not_told config i (Some f) is = absurd (cc is)
-
 pub none_at : {N : Type 0} (config : Config) (i : ℕ) (ws : List (N × Option NodeFault)) (k : ℕ) (b : N × Option NodeFault) → first_fault config i ws ≡ None → k < length ws → (slice_index_or ws k b).1 ≡ None
 none_at config i [] k b none below = absurd (omega (arith, below))
-none_at config i (w ∷ ws) zero b none below = not_told config i w.1 (or_none_both (told_of config i w.1) (first_fault config (suc i) ws) none).0
-none_at config i (w ∷ ws) (suc k) b none below = none_at config (suc i) ws k b (or_none_both (told_of config i w.1) (first_fault config (suc i) ws) none).1 (omega (arith, below))
+none_at config i (w ∷ ws) zero b none below = grind arith
+none_at config i (w ∷ ws) (suc k) b none below = grind (arith, none_at config (suc i) ws k)
 
 pub no_fault : {N : Type 0} (config : Config) (ws : List (N × Option NodeFault)) → first_fault config 0 ws ≡ None → HasFault ws → ⊥
 no_fault {N} config ws none has =

@@ -86,22 +86,15 @@ module _ {D : Type 0} (tells : Bool) (seen : D → List ℕ) (image : D → List
   calm_read sure (o ∷ os) [] only up calm = absurd only
   calm_read sure (o ∷ os) (n ∷ ns) only up calm = (only.0.calm sure up.0 ∙ calm.0, calm_read sure os ns only.1 up.1 calm.1)
 
-  none_of_disk : IsTrue planned → (disk : DiskName) (olds news : List (LentDisk D)) → OnlyRead olds news → AreUp is_down (map as_lent olds) → OneWith (λ old new. IsToldBy tells image faults planned is_down old new (fault.Store (place.Disk disk))) olds news → ⊥
-  none_of_disk sure disk [] news only up one = one
-  none_of_disk sure disk (o ∷ os) [] only up one = one
-  none_of_disk sure disk (o ∷ os) (n ∷ ns) only up one = ⊎_elim (λ here. here.3 sure up.0) (none_of_disk sure disk os ns only.1 up.1) one
-
   none_told : (olds news : List (LentDisk D)) → OneWith (λ old new. ⊥) olds news → ⊥
   none_told [] news one = one
   none_told (o ∷ olds) [] one = one
   none_told (o ∷ olds) (n ∷ news) one = ⊎_elim (λ here. here) (λ later. none_told olds news later) one
 
-  none_of_places : IsTrue planned → (olds news : List (LentDisk D)) → OnlyRead olds news → AreUp is_down (map as_lent olds) → (at : StorePlace) → OneWith (λ old new. IsToldBy tells image faults planned is_down old new (fault.Store at)) olds news → ⊥
-  none_of_places sure olds news only up (place.Disk disk) one = none_of_disk sure disk olds news only up one
-  none_of_places sure olds news only up _ one = none_told olds news one
-
   pub up_read : IsTrue planned → (olds news : List (LentDisk D)) → OnlyRead olds news → AreUp is_down (map as_lent olds) → (f : RunFault) → OneWith (λ old new. IsToldBy tells image faults planned is_down old new f) olds news → (at : StorePlace) → f ≢ fault.Store at
-  up_read sure olds news only up f one at is = none_of_places sure olds news only up at (subst (λ x. OneWith (λ old new. IsToldBy tells image faults planned is_down old new x) olds news) is one)
+  up_read sure [] news only up f one at is = one
+  up_read sure (o ∷ os) [] only up f one at is = one
+  up_read sure (o ∷ os) (n ∷ ns) only up f one at is = grind (arith, up_read sure os ns only.1 up.1 f)
 
   -- a fault of reading is one of a disk
   told_store : (disk : DiskName) (olds news : List (LentDisk D)) (rose : Type 0) → ((l : Lent D) → Mem l (map as_lent news) → 1 ≤ faults l.disk → rose)

@@ -1,20 +1,18 @@
 -- From what a run leaves of each node to the run of the whole system.
 use Rattle.std.specs.Prelude.{IsTrue, fold}
 use Rattle.std.proofs.Common.{◌≡◌, ◌≢◌, ℕ, ◌≤◌, ◌<◌, List, [], ◌∷◌, length, slice_index_or, Bool, true, false, Option, Some, None, refl, sym, ap, ◌∙◌, subst, arith}
-use Rattle.site_run.proofs.Words.{get_or_default, Begin, End, Stop, Entry, Phase, is_begin, is_in_turn, Idle, Busy, Bytes, Kind, PlanView, IsAired, phase, is_dead, Node, Dispatcher, Server, Replica, Joiner, Setting, IsNode, NumbersAreNodes, node_number, node_of, node_count, NodeDisk, NodeFault, Damaged, Spent, Rows, State, state_phase, phase_by, dispatcher_at_rest, joiner_at_rest, server_at_rest, World, Disks, world_after, opening, UpWith, StateOf, rows_of, down_over, cell_of, StandsFor, RestsAt, StatesRest, made_by, EachWalked, IsRunOf, AiredIsRun, Chosen, choose, StandsAt, LeadsOn, GrowsOn, Reached, Rests, AnyState, any_of, any_phase, any_rests, IsAtLast, IsMeant, AreDownOver, DeadAreReplicas, IsRunFrom, HaveGrown}
+use Rattle.site_run.proofs.Lists.{some_of}
+use Rattle.site_run.proofs.Words.{get_or_default, Begin, End, Stop, Entry, Phase, is_begin, is_in_turn, Idle, Busy, Bytes, Kind, PlanView, IsAired, phase, is_dead, Node, Dispatcher, Server, Replica, Joiner, Setting, IsNode, NumbersAreNodes, node_number, node_of, node_count, NodeDisk, NodeFault, Damaged, Spent, Rows, State, state_phase, phase_by, dispatcher_at_rest, joiner_at_rest, server_at_rest, Disks, UpWith, StateOf, rows_of, down_over, RestsAt, StatesRest, made_by, EachWalked, IsRunOf, AiredIsRun, Chosen, choose, StandsAt, LeadsOn, GrowsOn, Reached, Rests, AnyState, any_of, any_phase, any_rests, IsAtLast, IsMeant, AreDownOver, DeadAreReplicas, IsRunFrom, HaveGrown}
 use Rattle.site_run.proofs.Epochs.{comes_to_last}
 use Rattle.site_node.specs.States as states
 use Rattle.photon_model.specs.Runs as model
 use Rattle.site_run.specs.AnyNodes.{GoesOn}
-use Rattle.site_run.proofs.Walking.{walked}
+use Rattle.site_run.proofs.Walking.{phase_is, walked}
 use Rattle.site_node.specs.Paths.{phase_led}
 use Rattle.air_bus.specs.History.{phase_after}
 
 down_phase : (g : Setting) (d : Disks) (n : Node) (m : ℕ) → any_phase (any_of n (down_over g d n)) ≡ phase m []
-down_phase g d (Dispatcher s) m = refl
-down_phase g d (Server s) m = refl
-down_phase g d (Replica r) m = refl
-down_phase g d (Joiner j) m = refl
+down_phase g d n m = phase_is n (down_over g d n)
 
 -- a node whose own entries leave it up with no open turn knows something
 live_by : {L : Type 0} (live : Option L) (o : Option Bytes) → phase_by live o ≡ Idle → (l : L) × (live ≡ Some l)
@@ -25,18 +23,6 @@ live_by (Some l) (Some b) is = absurd (cc is)
 
 up_live : {K L : Type 0} (s : State K L) → state_phase s ≡ Idle → (l : L) × (s.live ≡ Some l)
 up_live s is = live_by s.live s.opened is
-
-abbrev setting_of : (n : Node) → StateOf n → Setting
-setting_of (Dispatcher s) u = u.setting
-setting_of (Server s) u = u.setting
-setting_of (Replica r) u = u.setting
-setting_of (Joiner j) u = u.setting
-
-settings_so : (g : Setting) (w : World) (n : Node) (u : StateOf n) → StandsFor g (cell_of w n) u → setting_of n u ≡ g
-settings_so g w (Dispatcher s) u f = f.setting
-settings_so g w (Server s) u f = f.setting
-settings_so g w (Replica r) u f = f.setting
-settings_so g w (Joiner j) u f = f.setting
 
 -- entries the last of which begins a turn leave it open
 begun : (e : Entry) → is_begin e ≡ true → phase_after e ≡ Busy
@@ -49,14 +35,7 @@ open_by rows was [] s t busy path last = ap state_phase (sym path) ∙ busy last
 open_by rows was (e ∷ es) s t busy path last = open_by rows (is_begin e) es path.0 t (λ is. phase_led rows s path.0 e path.1 ∙ begun e is) path.2 last
 
 open_at : (g : Setting) (d : Disks) (n : Node) (u : StateOf n) (mine : List Entry) → states.Path (rows_of n) (down_over g d n) mine u → is_in_turn mine ≡ true → any_phase (any_of n u) ≡ Busy
-open_at g d (Dispatcher s) u mine path last = open_by (rows_of (Dispatcher s)) false mine (down_over g d (Dispatcher s)) u (λ e. absurd (cc e)) path last
-open_at g d (Server s) u mine path last = open_by (rows_of (Server s)) false mine (down_over g d (Server s)) u (λ e. absurd (cc e)) path last
-open_at g d (Replica r) u mine path last = open_by (rows_of (Replica r)) false mine (down_over g d (Replica r)) u (λ e. absurd (cc e)) path last
-open_at g d (Joiner j) u mine path last = open_by (rows_of (Joiner j)) false mine (down_over g d (Joiner j)) u (λ e. absurd (cc e)) path last
-
-some_of : {A : Type 0} (xs : List A) → 0 < length xs → A
-some_of [] l = absurd (omega (arith, l))
-some_of (x ∷ xs) l = x
+open_at g d n u mine path last = phase_is n u ∙ open_by (rows_of n) false mine (down_over g d n) u (λ e. absurd (cc e)) path last
 
 module _ {N S : Type 0} (leads : S → Entry → S → Type 0) (phase_of : S → Phase) (stands : N → S → Type 0) (number : N → ℕ) (at_rest_as : S → Bool → Type 0) (spends : S → Bytes → Option ℕ) (places : N → AnyState → Type 0)
     (walks : (v : N) (u : AnyState) → places v u → GoesOn leads phase_of stands at_rest_as spends places v u) where
@@ -141,7 +120,7 @@ module _ {N S : Type 0} (leads : S → Entry → S → Type 0) (phase_of : S →
     rests_here : (n : Node) (u : StateOf n) (w : N × Option NodeFault) → Ended g d h w n u → Rests number stands at_rest_as w (made_by (node_number n) h) → (any_phase (any_of n u) ≡ Idle) × any_rests (any_of n u) true
     rests_here n u w e r = (e.meant.phased ∙ e.phased r.whole ∙ r.up, e.meant.rested true (r.rests e.here e.at))
 
-    rests_at : (n : Node) (u : StateOf n) → setting_of n u ≡ g → any_phase (any_of n u) ≡ Idle → any_rests (any_of n u) true → RestsAt g n u
+    rests_at : (n : Node) (u : StateOf n) → u.setting ≡ g → any_phase (any_of n u) ≡ Idle → any_rests (any_of n u) true → RestsAt g n u
     rests_at (Dispatcher s) u of_g up says =
         let l = up_live u up in
         subst (UpWith (λ x. dispatcher_at_rest x ≡ true)) (sym l.1) (sym (says l.0 l.1))
@@ -155,10 +134,8 @@ module _ {N S : Type 0} (leads : S → Entry → S → Type 0) (phase_of : S →
 
     -- a dead replica has nothing to do, and no turn
     replica_rests : (n : Node) (u : StateOf n) (r : ℕ) → n ≡ Replica r → RestsAt g n u
-    replica_rests (Dispatcher s) u r is = absurd (cc is)
-    replica_rests (Server s) u r is = absurd (cc is)
     replica_rests (Replica k) u r is = tt
-    replica_rests (Joiner j) u r is = absurd (cc is)
+    replica_rests _ u r is = absurd (cc is)
 
     no_turn : (n : Node) (u : StateOf n) (mine : List Entry) → states.Path (rows_of n) (down_over g d n) mine u → mine ≡ [] → any_phase (any_of n u) ≢ Busy
     no_turn n u [] path none busy = absurd (cc (sym (down_phase g d n 0) ∙ ap (λ x. any_phase (any_of n x)) path ∙ busy))
@@ -174,7 +151,7 @@ module _ {N S : Type 0} (leads : S → Entry → S → Type 0) (phase_of : S →
     )
     rest_of r n is false e =
         let rests = rests_here n (chosen.at n) (left_at n) (chosen.holds n is) (rested r (node_number n) one_left (inside n is) e) in
-        let of_g = settings_so g (world_after g (opening d) whole.0) n (chosen.at n) (whole.1.stands n is) in
+        let of_g = (whole.1.stands n is).setting in
         (rests_at n (chosen.at n) of_g rests.0 rests.1, λ busy. absurd (cc (sym rests.0 ∙ busy)))
 
     -- whatever stands for a node that isn't there

@@ -1,9 +1,9 @@
 -- Where no joiner's entries have a stop, the run has none.
 use Rattle.std.proofs.Common.{◌≡◌, ℕ, Bool, true, ◌||◌, List, [], ◌∷◌, refl, sym, ap, ◌∙◌, eq-eqb, arith}
 use Rattle.std.specs.Prelude.{if◌then◌else◌}
-use Rattle.site_run.proofs.Words.{list_any, BusEntry, is_of, Dispatcher, Server, Replica, Joiner, Setting, NumbersAreNodes, NoJoinerStops, AllMean, made_by, is_stop, NoJoinerStopped, NoneStops}
+use Rattle.site_run.proofs.Words.{list_any, BusEntry, is_of, Joiner, Setting, NumbersAreNodes, NoJoinerStops, AllMean, made_by, is_stop, NoJoinerStopped, NoneStops}
 use Rattle.air_bus.specs.declared.entry.Entry.TheVariants as bus
-use Rattle.photon_model.specs.Runs.{Entry, Begin, End, Stop}
+use Rattle.photon_model.specs.Runs.{Entry, Stop}
 
 module _ (j : ℕ) (e : BusEntry) (h : List BusEntry) where
   -- j's entries with this one, if it is j's
@@ -24,16 +24,12 @@ module _ (g : Setting) (numbers : NumbersAreNodes g) where
   none_on [] [] means none = tt
   none_on [] (x ∷ es) means none = absurd means
   none_on (e ∷ h) [] means none = absurd means
-  none_on (e ∷ h) (Begin n i ∷ es) means none = none_on h es means.1 (none_later e h none)
-  none_on (e ∷ h) (End n made ps kept ∷ es) means none = none_on h es means.1 (none_later e h none)
-  none_on (e ∷ h) (Stop (Dispatcher s) landed ∷ es) means none = none_on h es means.1 (none_later e h none)
-  none_on (e ∷ h) (Stop (Server s) landed ∷ es) means none = none_on h es means.1 (none_later e h none)
-  none_on (e ∷ h) (Stop (Replica r) landed ∷ es) means none = none_on h es means.1 (none_later e h none)
   none_on (bus.Begin m b ∷ h) (Stop (Joiner j) landed ∷ es) means none = absurd means.0
   none_on (bus.End m noted sent fits ∷ h) (Stop (Joiner j) landed ∷ es) means none = absurd means.0
   none_on (bus.Stop m noted ∷ h) (Stop (Joiner j) landed ∷ es) means none =
       let back = numbers.back m (Joiner j) means.0.0 in
       none j back.1 (stops_here j (bus.Stop m noted) h (eq-eqb m j (sym back.0)) refl)
+  none_on (e ∷ h) (_ ∷ es) means none = none_on h es means.1 (none_later e h none)
 
 pub none_stop : ((g : Setting) → NumbersAreNodes g) → NoneStops
 none_stop numbers g d h at es is none = none_on g (numbers g) h es is.means none

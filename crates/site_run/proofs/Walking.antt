@@ -1,6 +1,6 @@
 -- What leads a node of any kind on leads the node of the system on.
 use Rattle.std.proofs.Common.{◌≡◌, inl, inr, ⊎_elim, ℕ, List, [], ◌∷◌, Option, Some, None, refl, sym, ap, ◌∙◌, subst, arith}
-use Rattle.site_run.proofs.Words.{Entry, Begin, End, Stop, Bytes, Node, Dispatcher, Server, Replica, Joiner, Input, Setting, Note, Out, land, IsNoted, State, Leads, IsDone, Ends, row, row_of, written, closes, opens, DispatcherState, SiteLeads, ServerKept, ServerLive, land_server, SiteKept, ServerState, JoinerState, LeadsTo, JoinerKept, JoinerLive, DispatcherKept, DispatcherLive, StateOf, rows_of, server_rows, Path, AnyState, AnyLeads, any_of, with_site}
+use Rattle.site_run.proofs.Words.{Entry, Begin, End, Stop, Bytes, Node, Dispatcher, Server, Replica, Joiner, Input, Setting, Note, Out, land, IsNoted, State, Leads, IsDone, Ends, row, row_of, written, closes, opens, DispatcherState, SiteLeads, ServerKept, ServerLive, land_server, SiteKept, ServerState, JoinerState, LeadsTo, JoinerKept, JoinerLive, DispatcherKept, DispatcherLive, StateOf, rows_of, server_rows, Path, AnyState, AnyLeads, any_of, any_phase, state_phase, with_site}
 use Rattle.site_node.specs.States as states
 use Rattle.registry_server.specs.Registrars as registrars
 
@@ -10,7 +10,7 @@ lands_so : (s : ℕ) (k : ServerKept) (o : Option Note) → land registrars.serv
 lands_so s k None = refl
 lands_so s k (Some n) = refl
 
-row_so : (s : ℕ) (g : Setting) (k : ServerKept) (live : Option ServerLive) (i : Input) → row_of registrars.server_rows g (record { site = s; disk = k }) live i ≡ row_of (server_rows s) g k live i
+pub row_so : (s : ℕ) (g : Setting) (k : ServerKept) (live : Option ServerLive) (i : Input) → row_of registrars.server_rows g (record { site = s; disk = k }) live i ≡ row_of (server_rows s) g k live i
 row_so s g k None i = refl
 row_so s g k (Some l) i = refl
 
@@ -73,6 +73,11 @@ one (Server s) t e (inl (inr d)) l = of_server s t e d l
 one (Replica r) t e (inr (inl d)) l = (d, refl, l)
 one (Joiner j) t e (inr (inr d)) l = of_joiner j t e d l
 one _ t e _ l = absurd l
+
+-- a state stands on the bus by what it knows and what is open, as a state of a node of any kind too
+pub phase_is : (n : Node) (t : StateOf n) → any_phase (any_of n t) ≡ state_phase t
+phase_is (Dispatcher s) t = refl
+phase_is _ t = refl
 
 -- ---- all entries of a node
 

@@ -61,7 +61,7 @@ pub use Rattle.run_fault.specs.Causes.{IsCounted, IsWelcome}
 pub use Rattle.run_fault.specs.Faults.{of_place}
 pub use Rattle.run_fault.specs.declared.fault.Misplaced.{Misplaced}
 pub use Rattle.run_fault.specs.declared.fault.RunFault.{RunFault}
-pub use Rattle.site_laws.proofs.Naming.{is_joiner}
+pub use Rattle.site_laws.proofs.Naming.{by_node, by_topology, is_joiner}
 pub use Rattle.site_laws.proofs.Nodes.{same_is_whole}
 pub use Rattle.site_laws.proofs.Opening.{opened_whole}
 pub use Rattle.site_laws.specs.Choosing.{Chosen, choose}
@@ -70,7 +70,7 @@ pub use Rattle.site_laws.specs.Laws.{AiredIsRun, EachWalked, IsRunOf, made_by}
 pub use Rattle.site_laws.specs.Meaning.{AllMean, StandsFor}
 pub use Rattle.site_laws.specs.Rest.{RestsAt, StatesRest}
 pub use Rattle.site_laws.specs.StoreLaws.{HoldSameRecords, IsTopologyWritten, KeepOneTopology, LeavesNothing, ReadNotesAreKept, RunStaysSound, StatesKeepVotes, WrittenIsSound}
-pub use Rattle.site_laws.specs.Stores.{AreKept, AreLeft, HoldsRecords, Images, IsDisk, IsSoundStore, KeepsOf, KeepsTopology, KeepsVotes, SameRecords, joiner_of}
+pub use Rattle.site_laws.specs.Stores.{AreKept, AreLeft, Bytes as DiskBytes, HoldsRecords, Images, IsDisk, IsSoundStore, KeepsFor, KeepsOf, KeepsTopology, KeepsVotes, SameRecords, joiner_of, node_with}
 pub use Rattle.site_node.specs.Bytes.{IsNoted}
 pub use Rattle.site_node.specs.Replicas.{IsVoted, KeepsNotes, ReplicaState, kept_of as notes_kept}
 pub use Rattle.site_node.specs.States.{Ends, IsDone, Leads, MayHold, Rows, State, closes, opens, phase_by, row, row_of, state_phase, written}
@@ -81,7 +81,7 @@ pub use Rattle.site_run.specs.AnyNodes.{AnyLeads, AnyState, IsAtLast, IsMeant, a
 pub use Rattle.site_run.specs.Asked.{AreLogsOf, IsSettingOf, IsSettingOver}
 pub use Rattle.site_run.specs.Causes.{IsOfDisks, disk_of, of_node}
 pub use Rattle.site_run.specs.Heard.{kinds_of}
-pub use Rattle.site_run.specs.Held.{HasGoneOn, HasSpelledNotes, HaveGoneOn, HoldsAs}
+pub use Rattle.site_run.specs.Held.{HasGoneOn, HaveGoneOn, HoldsAs}
 pub use Rattle.site_run.specs.Joined.{IsAcceptedBound, Joins, JoinsAfresh, RanAfresh, WasHeld, decided_by}
 pub use Rattle.site_run.specs.Laws.{AllHold, AreHeld, AreMet, IsLeftBy, JoinerStopped, KeepsItsRecord, NoJoinerStopped, NoneStops}
 pub use Rattle.site_run.specs.Left.{HasRested, HasRun, RestLeft, RunLeft}
@@ -98,15 +98,15 @@ pub use Rattle.site_run.specs.Settled.{AreKeptIn, AreUp, first_fault, lent_outpu
 pub use Rattle.site_run.specs.declared.ran.Outcome.{Outcome}
 pub use Rattle.site_run.specs.declared.ran.RunLog.{RunLog}
 pub use Rattle.site_store.proofs.Causes.{cause_more, failed_rose, passed_more, unread_rose}
-pub use Rattle.site_store.proofs.Damage.{notes_kept as votes_are_notes}
+pub use Rattle.site_store.proofs.Damage.{journal_of}
 pub use Rattle.site_store.proofs.Lending.{each_map, each_mem, each_unmap}
 pub use Rattle.site_store.proofs.Names.{all_named, is_named, not_topology, others_apart, others_are, others_count}
 pub use Rattle.site_store.proofs.Recorded.{are_records, epoch_in, notes_in, offset_in, pairs_in, pending_in, records_of}
 pub use Rattle.site_store.proofs.Stays.{opened_same}
 pub use Rattle.site_store.proofs.Telling.{site_fits}
 pub use Rattle.site_store.proofs.Undamaged.{undamaged}
-pub use Rattle.site_store.proofs.Values.{at_name, names_kept, was_journal}
-pub use Rattle.site_store.proofs.Walking.{each_with_append}
+pub use Rattle.site_store.proofs.Values.{at_name, named_mem, names_kept, one_named, was_journal}
+pub use Rattle.site_store.proofs.Walking.{each_same, each_with_append}
 pub use Rattle.site_store.specs.Causes.{ArePassed, AreTold, HasCause, HasFailed, HasPassed as PassesFor, IsCause, IsUnread, LeavesSomething}
 pub use Rattle.site_store.specs.Kept.{Fits, all_kept}
 pub use Rattle.site_store.specs.Kinds.{damaged_by}

@@ -1,5 +1,8 @@
 // What a run is over, and what it runs on.
+ghost use Rattle.std.specs.Prelude.{◌≡◌};
+ghost use Rattle.site_run.specs.Logs.{name_of};
 
+use run_fault::LogName;
 use std::alloc::Global;
 
 /// The names of both logs, and of the store's directory.
@@ -8,6 +11,18 @@ pub struct Names<'a> {
     pub queries: &'a str,
     pub clicks: &'a str,
     pub state: &'a str,
+}
+
+impl<'a> Names<'a> {
+    /// The name of this log.
+    pub(crate) fn of_log(&self, log: LogName) -> &'a str
+        ensures { result.now ≡ name_of self.now log }
+    {
+        match log {
+            LogName::Queries => self.queries,
+            LogName::Clicks => self.clicks,
+        }
+    }
 }
 
 /// What a run runs on: threads, memory, and the gate that workers pass.

@@ -1,5 +1,5 @@
 // What a run leaves.
-ghost use Rattle.std.specs.Prelude.{◌≡◌, None};
+ghost use Rattle.std.specs.Prelude.{◌≡◌, None, false, true};
 
 use air_bus::{Air, Trail};
 use bus_seat::Seen;
@@ -31,9 +31,9 @@ pub struct Ran {
 }
 
 impl Ran {
-    /// Of no run.
+    /// Of no run. The next one keeps no entries.
     pub fn new() -> Ran
-        ensures { result.log ≡ None }
+        ensures { result ≡ record { log = None; is_recorded = false } }
     {
         Ran {
             log: None,
@@ -43,7 +43,7 @@ impl Ran {
 
     /// Of no run. The next one keeps the entries of its history.
     pub fn recorded() -> Ran
-        ensures { result.log ≡ None }
+        ensures { result ≡ record { log = None; is_recorded = true } }
     {
         Ran {
             log: None,

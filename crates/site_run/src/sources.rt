@@ -1,8 +1,9 @@
 // The logs of a run.
-ghost use Rattle.std.specs.Prelude.{◌≡◌, ◌≤◌, ◌≢◌, List, ℕ, [], Some, length, vec_len, vec_capacity, IsTrue, IfOk, IfErr, OnOk};
-ghost use Rattle.outside.specs.Faults.{Rose};
+ghost use Rattle.std.specs.Prelude.{◌≡◌, ◌⊎◌, ◌≤◌, ◌≢◌, List, ℕ, [], Some, length, vec_len, vec_capacity, IsTrue, IfOk, IfErr, OnOk, Err};
+ghost use Rattle.outside.specs.Faults.{Counts, Rose};
 ghost use Rattle.list_words.specs.Lists.{Each, Mem};
-ghost use Rattle.site_run.specs.Logs.{IsOfLogs};
+ghost use Rattle.site_run.specs.Logs.{IsOfLogs, name_of};
+ghost use Rattle.run_fault.specs.declared.fault.RunFault.TheVariants as fault;
 ghost use Rattle.site_run.specs.Making.{AreEnough};
 ghost use Rattle.time_shards.specs.declared.TheConstants.{MOST_JOINERS};
 
@@ -24,19 +25,20 @@ pub(crate) fn shut_all<F: Source>(files: &mut F, logs: Vec<F::Log>)
     logs.destroy_empty();
 }
 
-// Opens one of the logs.
-fn open_one<F: Source>(
+/// Opens the log of that name, which is this one of the two.
+pub fn open_log<F: Source>(
     alloc: Global,
     files: &mut F,
+    name: &str,
     log: LogName,
-    path: &str,
 ) -> Result<F::Log, RunFault>
-    ensures opened { IsTrue F.Log.tells → IfOk result (λ l. F.bytes files.old path.now ≡ Some (F.Log.bytes l)) }
+    ensures bytes { IsTrue F.Log.tells → IfOk result (λ l. F.bytes files.old name.now ≡ Some (F.Log.bytes l)) }
+    ensures fresh { IfOk result (λ l. F.Log.faults l ≡ 0) }
     ensures same { IsTrue F.Log.tells → (n : List ℕ) → F.bytes files.new n ≡ F.bytes files.old n }
-    ensures cause { IfErr result (IsOfLogs (Rose (F.faults files.old) (F.faults files.new))) }
-    ensures count { F.faults files.old ≤ F.faults files.new }
+    ensures fault { IfErr result (λ f. (f ≡ fault.Read log) ⊎ (f ≡ fault.Memory)) }
+    ensures count { Counts (F.faults files.old) (F.faults files.new) (result ≡ Err (fault.Read log)) }
 {
-    match files.open(alloc, path) {
+    match files.open(alloc, name) {
         Ok(opened) => Ok(opened),
         Err(OpenFault::Read) => Err(RunFault::Read(log)),
         Err(OpenFault::Memory) => Err(RunFault::Memory),
@@ -47,21 +49,21 @@ fn open_one<F: Source>(
 fn open_behind<F: Source>(
     alloc: Global,
     files: &mut F,
+    names: &Names<'_>,
     log: LogName,
-    path: &str,
     times: u8,
     logs: &mut Vec<F::Log>,
 ) -> Result<(), RunFault>
     requires empty { logs.old.items ≡ [] }
     requires room { times ≤ vec_capacity logs.old }
     ensures count { OnOk result (length logs.new.items ≡ times) }
-    ensures opened { IsTrue F.Log.tells → Each (λ l. F.bytes files.old path.now ≡ Some (F.Log.bytes l)) logs.new.items }
+    ensures opened { IsTrue F.Log.tells → Each (λ l. F.bytes files.old (name_of names.now log) ≡ Some (F.Log.bytes l)) logs.new.items }
     ensures same { IsTrue F.Log.tells → (n : List ℕ) → F.bytes files.new n ≡ F.bytes files.old n }
-    ensures cause { IfErr result (IsOfLogs (Rose (F.faults files.old) (F.faults files.new))) }
+    ensures cause { IfErr result (IsOfLogs (λ l. (l ≡ log) × Rose (F.faults files.old) (F.faults files.new))) }
     ensures faults { F.faults files.old ≤ F.faults files.new }
 {
     for _ in 0..times {
-        match open_one(alloc, files, log, path) {
+        match open_log(alloc, files, names.of_log(log), log) {
             Ok(opened) => logs.push_reserved(opened),
             Err(fault) => return Err(fault),
         }
@@ -73,20 +75,20 @@ fn open_behind<F: Source>(
 fn open_times<F: Source>(
     alloc: Global,
     files: &mut F,
+    names: &Names<'_>,
     log: LogName,
-    path: &str,
     times: u8,
 ) -> Result<Vec<F::Log>, RunFault>
     ensures count { IfOk result (λ logs. length logs.items ≡ times) }
-    ensures opened { IsTrue F.Log.tells → IfOk result (λ logs. Each (λ l. F.bytes files.old path.now ≡ Some (F.Log.bytes l)) logs.items) }
+    ensures opened { IsTrue F.Log.tells → IfOk result (λ logs. Each (λ l. F.bytes files.old (name_of names.now log) ≡ Some (F.Log.bytes l)) logs.items) }
     ensures same { IsTrue F.Log.tells → (n : List ℕ) → F.bytes files.new n ≡ F.bytes files.old n }
-    ensures cause { IfErr result (IsOfLogs (Rose (F.faults files.old) (F.faults files.new))) }
+    ensures cause { IfErr result (IsOfLogs (λ l. (l ≡ log) × Rose (F.faults files.old) (F.faults files.new))) }
     ensures faults { F.faults files.old ≤ F.faults files.new }
 {
     let Ok(mut logs) = Vec::with_capacity(alloc, usize::from(times)) else {
         return Err(RunFault::Memory);
     };
-    match open_behind(alloc, files, log, path, times, &mut logs) {
+    match open_behind(alloc, files, names, log, times, &mut logs) {
         Ok(()) => Ok(logs),
         Err(fault) => {
             shut_all(files, logs);
@@ -107,14 +109,14 @@ pub(crate) fn open_logs<F: Source>(
     ensures click_logs { IsTrue F.Log.tells → IfOk result (λ logs. Each (λ l. F.bytes files.old names.now.clicks.now ≡ Some (F.Log.bytes l)) logs.clicks.items) }
     ensures query_logs { IsTrue F.Log.tells → IfOk result (λ logs. Each (λ l. F.bytes files.old names.now.queries.now ≡ Some (F.Log.bytes l)) logs.queries.items) }
     ensures same { IsTrue F.Log.tells → (n : List ℕ) → F.bytes files.new n ≡ F.bytes files.old n }
-    ensures cause { IfErr result (IsOfLogs (Rose (F.faults files.old) (F.faults files.new))) }
+    ensures cause { IfErr result (IsOfLogs (λ l. Rose (F.faults files.old) (F.faults files.new))) }
     ensures faults { F.faults files.old ≤ F.faults files.new }
 {
-    let clicks = match open_times(alloc, files, LogName::Clicks, names.clicks, 2) {
+    let clicks = match open_times(alloc, files, names, LogName::Clicks, 2) {
         Ok(clicks) => clicks,
         Err(fault) => return Err(fault),
     };
-    match open_times(alloc, files, LogName::Queries, names.queries, 2 * joiners) {
+    match open_times(alloc, files, names, LogName::Queries, 2 * joiners) {
         Ok(queries) => Ok(Logs { clicks, queries }),
         Err(fault) => {
             shut_all(files, clicks);

@@ -10,20 +10,19 @@ use Rattle.topology_journal.specs.Topologies.{MayCome}
 use Rattle.topology_journal.specs.Topologies as journal
 use Rattle.photon_model.specs.Adding.{with_row}
 use Rattle.run_fault.specs.declared.fault.Unfit.{Unfit}
-use Rattle.run_fault.specs.declared.fault.RunFault.TheVariants as fault
 use Rattle.site_laws.proofs.SameDisks.{disk_onward}
 use Rattle.site_laws.specs.Stores.{IsChoice, IsSoundOr}
 use Rattle.site_laws.specs.StoreLaws.{IsRowAdded, RowIsSound, StaysSound}
 use Rattle.outside.specs.declared.store.DiskName.TheVariants as name
-use Rattle.site_store.proofs.Words.{eq-eqb, Each, Mem, DiskName, IsOpened, GoesOn, Topology, Keeps, IsTopology, Setting, BallotNote, Disks, PlainTopology, topology_of, Bytes, KeepsOf, KeepSound, IsSoundStore, ReadTopologyIsKept, ReadNotesAreKept, TopologyFits, joiners_kept, StaysAs, Lent, Lacks, MayBeLeft, OpenView, AllKept, KeptValues, AreKept, AreRecordsOf, kept_all, lent_all, values_of, other_names, IsAsked, LeavesSomething, IsWritten, RunFault, first_limit}
+use Rattle.site_store.proofs.Words.{eq-eqb, Each, Mem, DiskName, IsOpened, GoesOn, Topology, Keeps, IsTopology, Setting, BallotNote, Disks, PlainTopology, topology_of, Bytes, KeepsOf, KeepSound, IsSoundStore, ReadTopologyIsKept, ReadNotesAreKept, TopologyFits, joiners_kept, StaysAs, Lent, IsLent, Lacks, MayBeLeft, topology_lent, OpenView, AllKept, KeptValues, AreKept, AreRecordsOf, kept_all, lent_all, values_of, other_names, IsAsked, LeavesSomething, IsWritten, RunFault, first_limit}
 use Rattle.site_store.specs.Adding.{accepted, answer_of, answer_to, IsAnswer, IsUnadded, IsRowCause, HasRow, Leaves}
 use Rattle.site_store.proofs.Causes.{limit_is}
-use Rattle.site_store.proofs.Leaving.{all_grow}
-use Rattle.site_store.proofs.Lending.{each_mem, lacks_by_names}
+use Rattle.site_store.proofs.Appending.{written_through}
+use Rattle.site_store.proofs.Leaving.{all_grow, back_grown, back_or, back_others, back_own, back_stays}
+use Rattle.site_store.proofs.Lending.{each_mem, lacks_by_names, same_or_not}
 use Rattle.site_store.proofs.Names.{all_named, not_topology}
 use Rattle.site_store.proofs.Recorded.{keeps_of}
 use Rattle.site_store.proofs.Report.{its, of, notes_are, named}
-use Rattle.site_store.proofs.SameNames.{same_or_not}
 use Rattle.site_store.proofs.Sound.{topology_is}
 use Rattle.site_store.proofs.Values.{names_kept}
 
@@ -52,17 +51,14 @@ record IsLonger (kept : Option Topology) (batches : List Batch) (row : ShardRow)
 answered : (kept : Option Topology) (batches : List Batch) (row : ShardRow) (t : Topology) → answer_to kept batches row ≡ Ok t → IsLonger kept batches row t
 answered h batches row t e = grind (arith, no_answer, by_parts)
 
-pub answers : (kept : Option Topology) (was : Topology) (batches : List Batch) (row : ShardRow) (table : List ShardRow) (soon : Option TooSoon) → kept ≡ Some was → added was.table row ≡ Ok table → too_soon_for batches row.start ≡ soon
-    → answer_to kept batches row ≡ answer_of was.joiners row.start (Ok table) soon
-answers kept was batches row table soon is so at = grind arith
+pub answers : (k : KeptValues) (told : Option RunFault) (was : Topology) (row : ShardRow) (table : List ShardRow) (soon : Option TooSoon) → told ≡ first_limit k → ((f : RunFault) → told ≡ Some f → ⊥) → k.topology ≡ Some was → added was.table row ≡ Ok table
+    → too_soon_for (accepted k.disks) row.start ≡ soon → IsAnswer k row (answer_of was.joiners row.start (Ok table) soon)
+answers k told was row table soon limit none is so at = grind arith
 
 -- its record may come next
 pub may_come : (kept : Option Topology) (was : Topology) (row : ShardRow) (table : List ShardRow) → kept ≡ Some was → IsTopology was → added was.table row ≡ Ok table → IsTable table
     → MayCome kept (journal.topology_of was.joiners table)
 may_come kept was row table is fine so ok = grind (arith, eq-eqb, added_is)
-
-pub no_limit : (k : KeptValues) (told : Option RunFault) → told ≡ first_limit k → ((f : RunFault) → told ≡ Some f → ⊥) → first_limit k ≡ None
-no_limit k told e none = grind arith
 
 -- what is at its limit is told
 pub limit_unadded : (k : KeptValues) (row : ShardRow) (f : RunFault) → first_limit k ≡ Some f → IsUnadded k row f
@@ -105,12 +101,28 @@ module _ {D : Type 0} (left : D → List ℕ → Type 0) (mid after : DiskName �
 
 -- ---- a sound store
 
-module _ {D : Type 0} (tells : Bool) (sure : IsTrue tells) (left : D → List ℕ → Type 0) (before mid after : DiskName → List ℕ → Type 0) (kept : Option Topology) (topology : Lent D) (disks : List (OpenView D)) (replicas : ℕ) (are : AreKept tells before replicas 0 (values_of kept disks))
-    (row : ShardRow) (t : Topology) (answer : IsAnswer (values_of kept disks) row (Ok t)) (keep : Each (λ o. AllKept left o) disks)
-    (give : (disk : DiskName) (c : List ℕ) → after disk c → MayBeLeft left mid (topology ∷ lent_all disks) disk c) (its_name : topology.name ≡ name.Topology) (others : (disk : DiskName) → disk ≢ name.Topology → StaysAs (before disk) (after disk))
+-- whatever is left of the topology's disk has the record, where that holds of the disk itself
+pub all_written : {D : Type 0} (tells : Bool) (left : D → List ℕ → Type 0) (before mid after : DiskName → List ℕ → Type 0) (kept : Option Topology) (old new : D) (disks : List (OpenView D)) (replicas : ℕ) → AreKept tells before replicas 0 (values_of kept disks)
+    → (t : Topology) → IsLent left before mid (topology_lent old ∷ lent_all disks) → ((disk : DiskName) (c : List ℕ) → after disk c → MayBeLeft left mid (topology_lent new ∷ lent_all disks) disk c) → ((c : List ℕ) → left new c → IsWritten (left old) t c)
+    → (c : List ℕ) → after name.Topology c → IsWritten (before name.Topology) t c
+all_written tells left before mid after kept old new disks replicas are t so give own c now =
+    let away = none_topology tells before replicas kept disks are in
+    written_through (before name.Topology) (left old) so.out.0 t c (own c (back_own left before mid (topology_lent old) (topology_lent new) (lent_all disks) so refl after give away c now))
+
+module _ {D : Type 0} (tells : Bool) (sure : IsTrue tells) (left : D → List ℕ → Type 0) (before mid after : DiskName → List ℕ → Type 0) (kept : Option Topology) (old new : D) (disks : List (OpenView D)) (replicas : ℕ) (are : AreKept tells before replicas 0 (values_of kept disks))
+    (row : ShardRow) (t : Topology) (answer : IsAnswer (values_of kept disks) row (Ok t)) (keep : Each (λ o. AllKept left o) disks) (so : IsLent left before mid (topology_lent old ∷ lent_all disks))
+    (give : (disk : DiskName) (c : List ℕ) → after disk c → MayBeLeft left mid (topology_lent new ∷ lent_all disks) disk c) (either : (c : List ℕ) → left new c → IsOpened (left old) c ⊎ IsWritten (left old) t c)
     (read_topology : ReadTopologyIsKept) (read_notes : ReadNotesAreKept) (fits : TopologyFits) where
   abbrev k : KeptValues
   k = values_of kept disks
+
+  others : (disk : DiskName) → disk ≢ name.Topology → StaysAs (before disk) (after disk)
+  others = back_others left before mid (topology_lent old) (topology_lent new) (lent_all disks) so refl after give (IsWritten (left old) t) refl either
+
+  or_not : (c : List ℕ) → after name.Topology c → IsOpened (before name.Topology) c ⊎ IsWritten (before name.Topology) t c
+  or_not c now =
+      ⊎_elim (λ from. inl from) (λ w. inr (written_through (before name.Topology) (left old) so.out.0 t c w.1))
+      (back_or left before mid (topology_lent old) (topology_lent new) (lent_all disks) so refl after give (IsWritten (left old) t) refl either name.Topology c now)
 
   module _ (g : Setting) (same : g.config.replicas ≡ replicas) (sound : IsSoundStore g before) (b : Bytes) (choice : IsChoice g after b) where
     it : IsLonger k.topology (accepted k.disks) row t
@@ -149,7 +161,7 @@ module _ {D : Type 0} (tells : Bool) (sure : IsTrue tells) (left : D → List �
       keep = λ disk here c now. elim (same_or_not disk name.Topology) [
         | inl is ↦ subst (λ (n : DiskName). KeepsOf g records n c) (sym is) tt
         | inr not ↦
-            keeps_records left mid after topology disks keep give its_name read_notes g records says disk not
+            keeps_records left mid after (topology_lent new) disks keep give refl read_notes g records says disk not
             (subst (Mem disk) (sym names ∙ names_kept disks) (all_named g disk here not)) c now
       ];
       free = ap (λ (js : List (List BallotNote)). too_soon_for (all_batches js) row.start) (sym (notes_are g records k.disks names are.kinds says)) ∙ it.free;
@@ -166,24 +178,25 @@ module _ {D : Type 0} (tells : Bool) (sure : IsTrue tells) (left : D → List �
     sound_either law (inr w) = inr (sound_longer law w)
 
   -- the disks are back, and the topology's may have the row
-  pub changed : ((g : Setting) → RowIsSound g before after) → ((g : Setting) → StaysSound g before after) → (surely none : Type 0) → (surely → (c : List ℕ) → after name.Topology c → IsWritten (before name.Topology) t c)
-      → ((c : List ℕ) → after name.Topology c → IsOpened (before name.Topology) c ⊎ IsWritten (before name.Topology) t c) → ((disk : DiskName) → GoesOn (before disk) (after disk))
-      → (none → (disk : DiskName) → StaysAs (before disk) (after disk)) → Leaves before after replicas (λ r. r ≡ row) (HasRow tells before replicas row) surely none
-  changed law same surely none written or_not grown stays = record {
-    stays = stays;
-    others = others;
-    topology = λ c now. ⊎_elim (λ from. inl from) (λ w. inr (t, (k, are, answer), w)) (or_not c now);
-    grown = grown;
-    longer = λ yes r is g count sound. (
-        subst (λ (x : ShardRow). IsSoundStore (with_row g x) after) (sym is)
-        (λ b choice. sound_longer g count sound b (λ disk here. choice disk (disk_onward g (with_row g row) refl refl disk here)) (law g) (written yes (b name.Topology) (choice name.Topology tt)))
-        );
-    still = λ no g sound. same g sound (λ disk here. stays no disk);
-    either = λ r is g count sound. (
-        subst (λ (x : ShardRow). IsSoundOr g (with_row g x) after) (sym is)
-        (λ b choice. sound_either g count sound b choice (law g) (or_not (b name.Topology) (choice name.Topology tt)))
-        );
-  }
+  pub changed : ((g : Setting) → RowIsSound g before after) → ((g : Setting) → StaysSound g before after) → (surely none : Type 0) → (surely → (c : List ℕ) → left new c → IsWritten (left old) t c) → GoesOn (left old) (left new)
+      → (none → StaysAs (left old) (left new)) → Leaves before after replicas (λ r. r ≡ row) (HasRow tells before replicas row) surely none
+  changed law same surely none durable grows still =
+      let stays = λ (no : none). back_stays left before mid (topology_lent old) (topology_lent new) (lent_all disks) so refl after give (still no) in
+      record {
+        stays = stays;
+        others = others;
+        topology = λ c now. ⊎_elim (λ from. inl from) (λ w. inr (t, (k, are, answer), w)) (or_not c now);
+        grown = back_grown left before mid (topology_lent old) (topology_lent new) (lent_all disks) so refl after give grows;
+        longer = λ yes r is g count sound. (
+            subst (λ (x : ShardRow). IsSoundStore (with_row g x) after) (sym is)
+            (λ b choice. sound_longer g count sound b (λ disk here. choice disk (disk_onward g (with_row g row) refl refl disk here)) (law g) (all_written tells left before mid after kept old new disks replicas are t so give (durable yes) (b name.Topology) (choice name.Topology tt)))
+            );
+        still = λ no g sound. same g sound (λ disk here. stays no disk);
+        either = λ r is g count sound. (
+            subst (λ (x : ShardRow). IsSoundOr g (with_row g x) after) (sym is)
+            (λ b choice. sound_either g count sound b choice (law g) (or_not (b name.Topology) (choice name.Topology tt)))
+            );
+      }
 
 -- none has changed
 pub unchanged : (before after : DiskName → List ℕ → Type 0) (replicas : ℕ) (is_row : ShardRow → Type 0) (has : List ℕ → Type 0) (surely none : Type 0) → (surely → ⊥) → ((g : Setting) → StaysSound g before after)

@@ -1,11 +1,10 @@
 -- A sound store that keeps no topology keeps no records.
 use Rattle.std.proofs.Common.{◌≡◌, ℕ, List, [], ◌∷◌, map, length, Bool, IsTrue, true, false, Option, Some, None, refl, sym, ◌∙◌, ap, subst, arith}
 use Rattle.std.specs.Prelude.{flat_map}
-use Rattle.site_store.proofs.Words.{Each, none_some, DiskName, ReplicaNote, note, gate_rule, Topology, Setting, KeepsNotes, vote_record, StoreTopology, Store, IsBlank, IsDisk, KeepsTopology, IsSoundStore, topology_read, KeepOneTopology, ReadTopologyIsKept, one_value, joiners_kept, Kept, KeptDisk, KeptValues, KeepsAs, IsOfKind, AreKept, other_names, LeavesSomething, KeptStore, notes_at, pairs_at, IsRead, KeepsNothing, values_from}
+use Rattle.site_store.proofs.Words.{Each, each_from, none_some, DiskName, ReplicaNote, note, gate_rule, Topology, Setting, KeepsNotes, vote_record, StoreTopology, Store, IsBlank, IsDisk, KeepsTopology, IsSoundStore, topology_read, KeepOneTopology, ReadTopologyIsKept, one_value, joiners_kept, Kept, KeptDisk, KeptValues, KeepsAs, IsOfKind, AreKept, other_names, LeavesSomething, KeptStore, notes_at, pairs_at, IsRead, KeepsNothing, values_from}
 use Rattle.outside.specs.declared.store.DiskName.TheVariants as name
 use Rattle.site_store.proofs.Lending.{each_mem}
 use Rattle.site_store.proofs.Names.{IsNamed, by_replicas, each_named, flat_none}
-use Rattle.site_store.proofs.Recorded.{each_from}
 use Rattle.site_store.proofs.Sound.{chosen, all_sound, topology_held, held, are_disks}
 use Rattle.site_store.proofs.Values.{by_names, named_mem}
 
@@ -47,10 +46,6 @@ module _ (tells : Bool) (sure : IsTrue tells) (image : DiskName → List ℕ →
       all.2.blank (unused its.is_used its.topology _ all.2.topology no_topology)
 
   no_notes : (n : DiskName) (kd : Kept) → IsOfKind n kd → IsDisk g n → KeepsAs kd ((chosen tells sure image 0 g v kept some sound).0 n) → notes_at kd ≡ blank_notes n
-  no_notes name.Topology kd (x, is) here keeps = ap notes_at is
-  no_notes (name.Offset s) kd (x, is) here keeps = ap notes_at is
-  no_notes (name.Retry s) kd (x, is) here keeps = ap notes_at is
-  no_notes (name.Server s) kd (x, is) here keeps = ap notes_at is
   no_notes (name.Replica r) kd (x, is) here keeps =
       let c = (chosen tells sure image 0 g v kept some sound).0 (name.Replica r) in
       let own : KeepsNotes x c = subst (λ (k : Kept). KeepsAs k c) is keeps in
@@ -58,8 +53,7 @@ module _ (tells : Bool) (sure : IsTrue tells) (image : DiskName → List ℕ →
       let same : map note x ≡ map vote_record (its.disks.replicas r).notes = one_value (gate_rule c) (map note x) (map vote_record (its.disks.replicas r).notes) own.1 theirs.1 in
       let empty : x ≡ [] = no_items note x (same ∙ ap (map vote_record) (is_blank.notes r here)) in
       ap notes_at is ∙ ap (λ (ns : List ReplicaNote). ns ∷ []) empty
-  no_notes (name.Epoch s j) kd (x, is) here keeps = ap notes_at is
-  no_notes (name.Output s j) kd (x, is) here keeps = ap notes_at is
+  no_notes _ kd (x, is) here keeps = ap notes_at is
 
   pub notes_blank : flat_map (λ d. notes_at d.kept) v.disks ≡ values_from (λ r. []) 0 g.config.replicas
   notes_blank =
@@ -72,7 +66,7 @@ module _ (tells : Bool) (sure : IsTrue tells) (image : DiskName → List ℕ →
   pairs_blank =
       let all = each_from (λ (d : KeptDisk). pairs_at d.kept ≡ []) v.disks (λ d among.
       no_pairs g.config.replicas d.name d.kept (each_mem (λ (o : KeptDisk). IsOfKind o.name o.kept) d v.disks kept.kinds among)
-      (each_mem (IsNamed 0 g.config.replicas) d.name _ (subst (Each (IsNamed 0 g.config.replicas)) (sym named) (each_named 0 g.config.replicas)) (named_mem v.disks d among))) in
+      (each_mem (IsNamed 0 g.config.replicas) d.name _ (subst (Each (IsNamed 0 g.config.replicas)) (sym named) (each_named 0 g.config.replicas)) (named_mem (λ (d : KeptDisk). d.name) v.disks d among))) in
       flat_none (λ (d : KeptDisk). pairs_at d.kept) v.disks all
 
 pub read_nothing : (tells : Bool) → IsTrue tells → (image : DiskName → List ℕ → Type 0) (replicas : ℕ) (log_tells : Bool) (log : List ℕ) (end_ : ℕ) → KeepOneTopology → ReadTopologyIsKept → (k : KeptStore) → IsRead tells image replicas log_tells log end_ k

@@ -1,11 +1,10 @@
 -- Of a sound store no disk is told as damaged.
-use Rattle.std.proofs.Common.{◌≡◌, inl, inr, ℕ, ◌≤◌, List, [], ◌∷◌, map, Bool, IsTrue, Option, Some, None, refl, sym, ◌∙◌, ap, subst, arith}
+use Rattle.std.proofs.Common.{◌≡◌, ◌≢◌, inl, inr, ℕ, ◌≤◌, List, [], ◌∷◌, map, Bool, IsTrue, Option, Some, None, refl, sym, ◌∙◌, ap, subst, arith}
 use Rattle.std.specs.Prelude.{All}
-use Rattle.site_store.proofs.Words.{All-nil, All-cons, Each, DiskName, StandsFor, Topology, Keeps, Promised, Accepted, ReplicaNote, note, IsNote, Setting, BallotNote, ReplicaKept, IsVoted, vote_record, joiners_kept, damaged_by, IsDamagedIn, IsKeptIn, IsJournalOf, IsFirst, IsFirstDisk, other_names, KeepsNotes, IsUnwritten, RunFault, IsWelcome, PlainTopology, Store, Bytes, IsDisk, KeepsTopology, KeepsVotes, Holds, KeepSound, IsSoundStore, ReadTopologyIsKept, TopologyFits, choose, LeavesSomething}
+use Rattle.site_store.proofs.Words.{All-nil, All-cons, Each, DiskName, StandsFor, Topology, Keeps, note, IsNote, Setting, BallotNote, ReplicaKept, IsVoted, vote_record, joiners_kept, damaged_by, IsDamagedIn, IsKeptIn, IsJournalOf, IsFirst, IsFirstDisk, other_names, KeepsNotes, IsUnwritten, RunFault, IsWelcome, PlainTopology, Store, Bytes, IsDisk, KeepsTopology, KeepsVotes, Holds, KeepSound, KeepsOf, IsSoundStore, ReadTopologyIsKept, TopologyFits, choose, LeavesSomething, Disks}
 use Rattle.outside.specs.declared.store.DiskName.TheVariants as name
-use Rattle.paxos_acceptor.specs.declared.notes.ReplicaNote.TheVariants as replica
-use Rattle.run_fault.specs.declared.fault.StorePlace.TheVariants as place
-use Rattle.run_fault.specs.declared.fault.RunFault.TheVariants as fault
+use Rattle.site_laws.proofs.Keeping.{as_note, is_note, record_is}
+use Rattle.site_laws.proofs.Naming.{by_topology}
 use Rattle.site_store.proofs.Lending.{each_back}
 use Rattle.site_store.proofs.Names.{others_are}
 use Rattle.site_store.proofs.Undamaged.{undamaged}
@@ -18,19 +17,6 @@ module _ (g : Setting) where
 
 -- ---- the disks of a sound store are journals
 
--- a note of the ballots as a replica's journal has it
-abbrev as_note : BallotNote → ReplicaNote
-as_note (Promised at b) = replica.Promised at.shard at.slot b
-as_note (Accepted at b v) = replica.Accepted at.shard at.slot b v
-
-is_note : (n : BallotNote) → IsVoted n → IsNote (as_note n)
-is_note (Promised at b) is = is
-is_note (Accepted at b v) is = is
-
-record_is : (n : BallotNote) → vote_record n ≡ note (as_note n)
-record_is (Promised at b) = refl
-record_is (Accepted at b v) = refl
-
 are_notes : (ns : List BallotNote) → Each IsVoted ns → All IsNote (map as_note ns)
 are_notes [] all = All-nil IsNote
 are_notes (n ∷ ns) all = All-cons IsNote (as_note n) (map as_note ns) (is_note n all.0) (are_notes ns all.1)
@@ -42,14 +28,14 @@ records_are (n ∷ ns) = ap (λ (b : List ℕ). b ∷ map vote_record ns) (recor
 pub notes_kept : (k : ReplicaKept) (c : List ℕ) → KeepsVotes k c → KeepsNotes (map as_note k.notes) c
 notes_kept k c is = (are_notes k.notes is.0, subst (λ (rs : List (List ℕ)). StandsFor rs c) (records_are k.notes) is.1)
 
+-- what a disk keeps of a setting's records is a journal of its kind
+pub journal_of : (g : Setting) (d : Disks) (disk : DiskName) → disk ≢ name.Topology → (c : List ℕ) → KeepsOf g d disk c → IsJournalOf disk c
+journal_of g d name.Topology other c keeps = absurd (other refl)
+journal_of g d (name.Replica r) other c keeps = (_, notes_kept (d.replicas r) c keeps)
+journal_of g d _ other c keeps = (_, keeps)
+
 journal_is : (g : Setting) (b : Bytes) (s : Store) → Holds g b s → (disk : DiskName) → IsDisk g disk → IsJournalOf disk (b disk)
-journal_is g b s holds name.Topology here = (_, holds.topology)
-journal_is g b s holds (name.Offset i) here = (_, holds.records (name.Offset i) here)
-journal_is g b s holds (name.Retry i) here = (_, holds.records (name.Retry i) here)
-journal_is g b s holds (name.Server i) here = (_, holds.records (name.Server i) here)
-journal_is g b s holds (name.Replica r) here = (_, notes_kept (s.disks.replicas r) (b (name.Replica r)) (holds.records (name.Replica r) here))
-journal_is g b s holds (name.Epoch i j) here = (_, holds.records (name.Epoch i j) here)
-journal_is g b s holds (name.Output i j) here = (_, holds.records (name.Output i j) here)
+journal_is g b s holds = by_topology (λ disk. IsDisk g disk → IsJournalOf disk (b disk)) (λ here. (_, holds.topology)) (λ disk other here. journal_of g s.disks disk other (b disk) (holds.records disk here))
 
 -- what a stop may leave of one disk, and something of each other
 module _ (g : Setting) (image : DiskName → List ℕ → Type 0) (some : LeavesSomething g image) (sound : IsSoundStore g image) (disk : DiskName) (here : IsDisk g disk) (c : List ℕ) (now : image disk c) where

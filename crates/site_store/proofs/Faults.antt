@@ -1,8 +1,6 @@
 -- Why a journal isn't opened, as the fault of its disk.
 use Rattle.std.proofs.Common.{◌≡◌, ◌≤◌, ℕ, List, Bool, IsTrue, arith}
 use Rattle.site_store.proofs.Words.{DiskName, Within, added, JournalFault, RunFault, damaged_by, IsRefusedBy, told_by, IsUnopened}
-use Rattle.run_fault.specs.declared.fault.StorePlace.TheVariants as place
-use Rattle.run_fault.specs.declared.fault.RunFault.TheVariants as fault
 
 -- a disk that was taken is refused: it was damaged, or its count is among the store's
 pub told_unopened : (before : DiskName → List ℕ → Type 0) (name : DiskName) (f : JournalFault) (tells : Bool) (seen : List ℕ) (met n old mid new : ℕ)

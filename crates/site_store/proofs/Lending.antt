@@ -1,9 +1,12 @@
 -- Disks that are lent and given back, one by one.
-use Rattle.std.proofs.Common.{◌≡◌, ◌≢◌, inl, inr, ℕ, ◌+◌, ◌<◌, List, [], ◌∷◌, ◌++◌, length, take, get_or, refl, sym, ◌∙◌, ap, subst, arith, zero, suc}
+use Rattle.std.proofs.Common.{◌≡◌, ◌≢◌, ◌⊎◌, inl, inr, ℕ, ◌+◌, ◌<◌, List, [], ◌∷◌, ◌++◌, length, take, get_or, refl, sym, ◌∙◌, ap, subst, arith, zero, suc}
 use Rattle.std.specs.Prelude.{map}
-use Rattle.site_store.proofs.Words.{map-append, take_more, length-append, Each, EachPair, Mem, DiskName, Within, StaysAs, IsKeptIn, Lent, Lacks, IsLent, MayBeLeft, OpenView, KeepsAs, IsKept, kept_by, lent_by, lent_all}
-use Rattle.site_store.proofs.SameNames.{same_or_not}
+use Rattle.site_store.proofs.Words.{map-append, take_more, length-append, Each, EachPair, Mem, mem_left, DiskName, Within, StaysAs, IsKeptIn, Lent, Lacks, IsLent, MayBeLeft, OpenView, KeepsAs, IsKept, kept_by, lent_by, lent_all, other_names}
+use Rattle.site_store.proofs.Names.{others_apart}
 use Rattle.site_store.proofs.Stays.{opened_same}
+
+pub same_or_not : (a b : DiskName) → (a ≡ b) ⊎ (a ≢ b)
+same_or_not a b = grind arith
 
 pub each_push : {A : Type 0} (P : A → Type 0) (xs : List A) (y : A) → Each P xs → P y → Each P (xs ++ y ∷ [])
 each_push P [] y h p = (p, tt)
@@ -17,21 +20,13 @@ pub each_back : {A : Type 0} (P : A → Type 0) (xs ys : List A) → Each P (xs 
 each_back P [] ys h = h
 each_back P (x ∷ xs) ys h = each_back P xs ys h.1
 
-pub each_both : {A : Type 0} (P : A → Type 0) (xs ys : List A) → Each P xs → Each P ys → Each P (xs ++ ys)
-each_both P [] ys h k = k
-each_both P (x ∷ xs) ys h k = (h.0, each_both P xs ys h.1 k)
-
-pub each_weaker : {A : Type 0} (P Q : A → Type 0) → ((x : A) → P x → Q x) → (xs : List A) → Each P xs → Each Q xs
-each_weaker P Q f [] h = tt
-each_weaker P Q f (x ∷ xs) h = (f x h.0, each_weaker P Q f xs h.1)
+pub each_two : {A : Type 0} (P Q R : A → Type 0) (xs : List A) → ((x : A) → P x → Q x → R x) → Each P xs → Each Q xs → Each R xs
+each_two P Q R [] f h k = tt
+each_two P Q R (x ∷ xs) f h k = (f x h.0 k.0, each_two P Q R xs f h.1 k.1)
 
 pub each_mem : {A : Type 0} (P : A → Type 0) (x : A) (xs : List A) → Each P xs → Mem x xs → P x
 each_mem P x [] h m = absurd m
 each_mem P x (y ∷ ys) h k = grind (arith, each_mem P x ys h.1)
-
-pub mem_front : {A : Type 0} (x : A) (xs ys : List A) → Mem x xs → Mem x (xs ++ ys)
-mem_front x [] ys m = absurd m
-mem_front x (y ∷ xs) ys h = grind (arith, mem_front x xs ys)
 
 pub mem_last : {A : Type 0} (x : A) (xs : List A) → Mem x (xs ++ x ∷ [])
 mem_last x [] = inl refl
@@ -78,23 +73,25 @@ module _ {D : Type 0} (left : D → List ℕ → Type 0) where
   pub first_lent : (before mid after : DiskName → List ℕ → Type 0) (one : Lent D) (lent : List (Lent D)) → StaysAs (before one.name) (left one.disk) → ((other : DiskName) → other ≢ one.name → Within (before other) (mid other))
       → IsLent left mid after lent → Lacks lent one.name → IsLent left before after (one ∷ lent)
   first_lent before mid after one lent stays others so lacks = record {
-    out = (stays, all_out lent so.out lacks);
+    out = (stays, each_two (λ (l : Lent D). l.name ≢ one.name) (λ l. StaysAs (mid l.name) (left l.disk)) (λ l. StaysAs (before l.name) (left l.disk)) lent (λ l not out c now. let from = out c now in (from.0, others l.name not from.0 from.1, from.2)) lacks so.out);
     others = λ name away c now. others name (λ e. away.0 (sym e)) c (so.others name away.1 c now);
   }
-    where
-      all_out : (ls : List (Lent D)) → Each (λ l. StaysAs (mid l.name) (left l.disk)) ls → Lacks ls one.name → Each (λ l. StaysAs (before l.name) (left l.disk)) ls
-      all_out [] out away = tt
-      all_out (l ∷ ls) out away = (λ c now. let from = out.0 c now in (from.0, others l.name away.0 from.0 from.1, from.2), all_out ls out.1 away.1)
 
   -- one disk is given back
   pub given : (before after : DiskName → List ℕ → Type 0) (front : List (Lent D)) (one : Lent D) → Within (left one.disk) (after one.name)
       → ((other : DiskName) → other ≢ one.name → Within (before other) (after other)) → (name : DiskName) (c : List ℕ) → MayBeLeft left after front name c → MayBeLeft left before (front ++ one ∷ []) name c
   given before after front one images others name c (inr of) =
-      inr (record { one = of.one; among = mem_front of.one front (one ∷ []) of.among; named = of.named; may = of.may })
+      inr (record { one = of.one; among = mem_left of.one front (one ∷ []) of.among; named = of.named; may = of.may })
   given before after front one images others name c (inl stays) = elim (same_or_not name one.name) [
     | inl same ↦ inr (record { one = one; among = mem_last one front; named = sym same; may = images c (subst (λ (n : DiskName). after n c) same stays.1) })
     | inr not ↦ inl (each_push (λ (l : Lent D). l.name ≢ name) front one stays.0 (λ e. not (sym e)), others name not c stays.1)
   ]
+
+  -- the last of some disks is given back
+  pub given_last : {X : Type 0} (before after : DiskName → List ℕ → Type 0) (f : X → Lent D) (all rest : List X) (one : X) → all ≡ rest ++ one ∷ [] → Within (left (f one).disk) (after (f one).name)
+      → ((other : DiskName) → other ≢ (f one).name → Within (before other) (after other)) → (name : DiskName) (c : List ℕ) → MayBeLeft left after (map f rest) name c → MayBeLeft left before (map f all) name c
+  given_last before after f all rest one cut images others name c now =
+      subst (λ (l : List (Lent D)). MayBeLeft left before l name c) (sym (ap (map f) cut ∙ map-append f rest (one ∷ []))) (given before after (map f rest) (f one) images others name c now)
 
   -- the first disk is given back after the others
   pub given_first : (before mid after : DiskName → List ℕ → Type 0) (one : Lent D) (lent : List (Lent D)) → ((name : DiskName) (c : List ℕ) → mid name c → MayBeLeft left before lent name c)
@@ -136,16 +133,16 @@ pub none_each : {A : Type 0} (P : A → Type 0) (xs : List A) → xs ≡ [] → 
 none_each P xs none = subst (Each P) (sym none) tt
 
 -- once none is out, what the store leaves is what was left at first
-pub none_out : {D : Type 0} (left : D → List ℕ → Type 0) (image : DiskName → List ℕ → Type 0) (disks : List (OpenView D)) (name : DiskName) (c : List ℕ) → disks ≡ [] → image name c → MayBeLeft left image (lent_all disks) name c
-none_out {D} left image disks name c none now = subst (λ (l : List (OpenView D)). MayBeLeft left image (lent_all l) name c) (sym none) (inl (tt, now))
+pub none_left : {D X : Type 0} (left : D → List ℕ → Type 0) (image : DiskName → List ℕ → Type 0) (f : X → Lent D) (disks : List X) (name : DiskName) (c : List ℕ) → disks ≡ [] → image name c → MayBeLeft left image (map f disks) name c
+none_left left image f disks name c none now = subst (λ l. MayBeLeft left image (map f l) name c) (sym none) (inl (tt, now))
 
 -- the next name is that of no disk that was opened
-pub lacks_next : {D : Type 0} (names : List DiskName) (i : ℕ) (d : DiskName) (all : List (OpenView D)) → EachPair (λ one other. one ≢ other) names → map (λ o. o.name) all ≡ take i names → i < length names
-    → Lacks (lent_all all) (get_or names i d)
-lacks_next {D} names i d all apart is lt =
-    let name = get_or names i d in
-    let so_far : Each (λ n. n ≢ name) (map (λ (o : OpenView D). o.name) all) = subst (Each (λ n. n ≢ name)) (sym is) (pair_before (λ one other. one ≢ other) names i d apart lt) in
-    each_map (λ (l : Lent D). l.name ≢ name) lent_by all (each_unmap (λ n. n ≢ name) (λ (o : OpenView D). o.name) all so_far)
+pub lacks_next : {D : Type 0} (joiners replicas : ℕ) (names : List DiskName) (i : ℕ) (name : DiskName) (all : List (OpenView D)) → names ≡ other_names joiners replicas → map (λ o. o.name) all ≡ take i names → i < length names
+    → name ≡ get_or names i name → Lacks (lent_all all) name
+lacks_next {D} joiners replicas names i name all named so lt is =
+    let apart = subst (EachPair (λ one other. one ≢ other)) (sym named) (others_apart joiners replicas) in
+    let so_far : Each (λ n. n ≢ get_or names i name) (map (λ (o : OpenView D). o.name) all) = subst (Each (λ n. n ≢ get_or names i name)) (sym so) (pair_before (λ one other. one ≢ other) names i name apart lt) in
+    subst (Lacks (lent_all all)) (sym is) (each_map (λ (l : Lent D). l.name ≢ get_or names i name) lent_by all (each_unmap (λ n. n ≢ get_or names i name) (λ (o : OpenView D). o.name) all so_far))
 
 -- none of these is the topology's, as their names say
 pub lacks_by_names : {D : Type 0} (name : DiskName) (all : List (OpenView D)) (names : List DiskName) → map (λ o. o.name) all ≡ names → Each (λ n. n ≢ name) names → Lacks (lent_all all) name

@@ -1,5 +1,4 @@
 pub mod Words
-pub mod SameNames
 pub mod Stays
 pub mod Worked
 pub mod Faults

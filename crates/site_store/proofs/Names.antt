@@ -3,9 +3,8 @@ use Rattle.std.proofs.Common.{◌≡◌, ◌≢◌, inl, inr, ℕ, zero, suc, �
 use Rattle.std.specs.Prelude.{flat_map}
 use Rattle.std.proofs.lemmas.Grind.{flat_map-append}
 use Rattle.std.proofs.lemmas.List.{append-nil, append_assoc}
-use Rattle.site_store.proofs.Words.{Each, EachPair, Mem, mem_left, mem_right, DiskName, Setting, IsDisk, values_from, site_names, other_names}
+use Rattle.site_store.proofs.Words.{Each, EachPair, each_append, each_more, Mem, mem_left, mem_right, DiskName, Setting, IsDisk, values_from, site_names, other_names}
 use Rattle.outside.specs.declared.store.DiskName.TheVariants as name
-use Rattle.site_store.proofs.Lending.{each_both, each_weaker}
 
 -- ---- lists as the values of a function
 
@@ -35,11 +34,8 @@ module _ {A X : Type 0} (h : A → List X) where
   flat_none [] none = refl
   flat_none (n ∷ ns) none = ap (λ (xs : List X). xs ++ flat_map h ns) none.0 ∙ flat_none ns none.1
 
-  flat_front : (front back : List A) → Each (λ n. h n ≡ []) back → flat_map h (front ++ back) ≡ flat_map h front
-  flat_front front back none = flat_map-append h front back ∙ ap (λ (xs : List X). flat_map h front ++ xs) (flat_none back none) ∙ append-nil (flat_map h front)
-
-  flat_back : (front back : List A) → flat_map h front ≡ [] → flat_map h (front ++ back) ≡ flat_map h back
-  flat_back front back none = flat_map-append h front back ∙ ap (λ (xs : List X). xs ++ flat_map h back) none
+  none_value : (f : ℕ → A) (n : ℕ) → ((k : ℕ) → h (f k) ≡ []) → flat_map h (values_from f 0 n) ≡ []
+  none_value f n none = flat_none (values_from f 0 n) (each_value (λ x. h x ≡ []) f 0 n (λ k lt. none k))
 
 -- ---- the names with so many joiners and replicas
 
@@ -57,66 +53,34 @@ module _ (joiners replicas : ℕ) where
   abbrev all : List DiskName
   all = other_names joiners replicas
 
-  -- those of the replicas, of a site's epochs and of its outputs; and all from the first up to those
-  abbrev rs : List DiskName
-  rs = values_from (λ r. name.Replica r) 0 replicas
-
-  abbrev es : ℕ → List DiskName
-  es s = values_from (λ j. name.Epoch s j) 0 joiners
-
-  abbrev os : ℕ → List DiskName
-  os s = values_from (λ j. name.Output s j) 0 joiners
-
-  abbrev to_rs : List DiskName
-  to_rs = site_names ++ rs
-
-  abbrev to_es : List DiskName
-  to_es = to_rs ++ es 0 ++ es 1
-
   abbrev Named : DiskName → Type 0
   Named = IsNamed joiners replicas
 
-  epochs_named : (s : ℕ) → s < 2 → Each Named (es s)
-  epochs_named s lt = each_value Named (λ j. name.Epoch s j) 0 joiners (λ k below. (lt, omega (arith, below)))
+  -- those behind the sites'
+  abbrev rest : List DiskName
+  rest =
+      values_from (λ r. name.Replica r) 0 replicas ++ values_from (λ j. name.Epoch 0 j) 0 joiners ++ values_from (λ j. name.Epoch 1 j) 0 joiners ++ values_from (λ j. name.Output 0 j) 0 joiners ++ values_from (λ j. name.Output 1 j) 0 joiners
 
-  outputs_named : (s : ℕ) → s < 2 → Each Named (os s)
-  outputs_named s lt = each_value Named (λ j. name.Output s j) 0 joiners (λ k below. (lt, omega (arith, below)))
+  more : (xs : List DiskName) (f : ℕ → DiskName) → ((j : ℕ) → j < joiners → Named (f j)) → Each Named xs → Each Named (xs ++ values_from f 0 joiners)
+  more xs f is so = each_append Named xs (values_from f 0 joiners) so (each_value Named f 0 joiners (λ j lt. is j (omega (arith, lt))))
 
   pub each_named : Each Named all
   each_named =
-      let sites : Each Named site_names = (omega arith, (omega arith, (omega arith, (omega arith, (omega arith, (omega arith, tt)))))) in
-      let first = each_both Named site_names rs sites (each_value Named (λ r. name.Replica r) 0 replicas (λ k lt. omega (arith, lt))) in
-      let next = each_both Named (to_rs ++ es 0) (es 1) (each_both Named to_rs (es 0) first (epochs_named 0 (omega arith))) (epochs_named 1 (omega arith)) in
-      each_both Named (to_es ++ os 0) (os 1) (each_both Named to_es (os 0) next (outputs_named 0 (omega arith))) (outputs_named 1 (omega arith))
-
-  from_es : (disk : DiskName) → Mem disk to_es → Mem disk all
-  from_es disk m = mem_left disk (to_es ++ os 0) (os 1) (mem_left disk to_es (os 0) m)
-
-  from_rs : (disk : DiskName) → Mem disk to_rs → Mem disk all
-  from_rs disk m = from_es disk (mem_left disk (to_rs ++ es 0) (es 1) (mem_left disk to_rs (es 0) m))
-
-  from_site : (disk : DiskName) → Mem disk site_names → Mem disk all
-  from_site disk m = from_rs disk (mem_left disk site_names rs m)
+      let first = each_value Named (λ r. name.Replica r) 0 replicas (λ k lt. omega (arith, lt)) in
+      let epochs = more _ (λ j. name.Epoch 1 j) (λ j lt. (omega arith, lt)) (more _ (λ j. name.Epoch 0 j) (λ j lt. (omega arith, lt)) first) in
+      let named = more _ (λ j. name.Output 1 j) (λ j lt. (omega arith, lt)) (more _ (λ j. name.Output 0 j) (λ j lt. (omega arith, lt)) epochs) in
+      (omega arith, (omega arith, (omega arith, (omega arith, (omega arith, (omega arith, named))))))
 
   pub is_named : (disk : DiskName) → Named disk → Mem disk all
-  is_named name.Topology is = absurd is
-  is_named (name.Offset zero) is = from_site _ (inl refl)
-  is_named (name.Offset (suc zero)) is = from_site _ (inr (inl refl))
-  is_named (name.Retry zero) is = from_site _ (inr (inr (inl refl)))
-  is_named (name.Retry (suc zero)) is = from_site _ (inr (inr (inr (inl refl))))
-  is_named (name.Server zero) is = from_site _ (inr (inr (inr (inr (inl refl)))))
-  is_named (name.Server (suc zero)) is = from_site _ (inr (inr (inr (inr (inr (inl refl))))))
-  is_named (name.Replica r) is = from_rs _ (mem_right _ site_names rs (mem_value (λ r. name.Replica r) 0 replicas r r (omega arith) is))
-  is_named (name.Epoch zero j) is = from_es _ (mem_left _ (to_rs ++ es 0) (es 1) (mem_right _ to_rs (es 0) (mem_value (λ j. name.Epoch 0 j) 0 joiners j j (omega arith) is.1)))
-  is_named (name.Epoch (suc zero) j) is = from_es _ (mem_right _ (to_rs ++ es 0) (es 1) (mem_value (λ j. name.Epoch 1 j) 0 joiners j j (omega arith) is.1))
-  is_named (name.Epoch (suc (suc s)) j) is = absurd (omega (arith, is.0))
-  is_named (name.Output zero j) is = mem_left _ (to_es ++ os 0) (os 1) (mem_right _ to_es (os 0) (mem_value (λ j. name.Output 0 j) 0 joiners j j (omega arith) is.1))
-  is_named (name.Output (suc zero) j) is = mem_right _ (to_es ++ os 0) (os 1) (mem_value (λ j. name.Output 1 j) 0 joiners j j (omega arith) is.1)
-  is_named (name.Output (suc (suc s)) j) is = absurd (omega (arith, is.0))
-  is_named _ is = absurd (omega (arith, is))
+  is_named (name.Replica r) is = grind (arith, mem_left, mem_right, mem_value (λ r. name.Replica r) 0 replicas r r (omega arith) is)
+  is_named (name.Epoch zero j) is = grind (arith, mem_left, mem_right, mem_value (λ j. name.Epoch 0 j) 0 joiners j j (omega arith) is.1)
+  is_named (name.Epoch (suc zero) j) is = grind (arith, mem_left, mem_right, mem_value (λ j. name.Epoch 1 j) 0 joiners j j (omega arith) is.1)
+  is_named (name.Output zero j) is = grind (arith, mem_left, mem_right, mem_value (λ j. name.Output 0 j) 0 joiners j j (omega arith) is.1)
+  is_named (name.Output (suc zero) j) is = grind (arith, mem_right, mem_value (λ j. name.Output 1 j) 0 joiners j j (omega arith) is.1)
+  is_named _ is = grind arith
 
   pub not_topology : Each (λ disk. disk ≢ name.Topology) all
-  not_topology = each_weaker Named (λ (disk : DiskName). disk ≢ name.Topology) (λ disk is e. subst Named e is) all each_named
+  not_topology = each_more Named (λ (disk : DiskName). disk ≢ name.Topology) all (λ disk is e. subst Named e is) each_named
 
   -- ---- they differ, since they are numbered in their order
 
@@ -138,30 +102,26 @@ module _ (joiners replicas : ℕ) where
   Follow from [] end_ = from ≡ end_
   Follow from (n ∷ ns) end_ = (number n ≡ from) × Follow (suc from) ns end_
 
-  follow_both : (from mid end_ : ℕ) (xs ys : List DiskName) → Follow from xs mid → Follow mid ys end_ → Follow from (xs ++ ys) end_
-  follow_both from mid end_ [] ys is next = subst (λ k. Follow k ys end_) (sym is) next
-  follow_both from mid end_ (x ∷ xs) ys is next = (is.0, follow_both (suc from) mid end_ xs ys is.1 next)
-
-  follow_value : (f : ℕ → DiskName) (base from n at end_ : ℕ) → ((k : ℕ) → number (f k) ≡ base + k) → at ≡ base + from → end_ ≡ at + n → Follow at (values_from f from n) end_
-  follow_value f base from zero at end_ is at_is end_is = omega (arith, end_is)
-  follow_value f base from (suc n) at end_ is at_is end_is = (is from ∙ sym at_is, follow_value f base (suc from) n (suc at) end_ is (omega (arith, at_is)) (omega (arith, end_is)))
+  follow_more : (f : ℕ → DiskName) (base from mid end_ : ℕ) (xs : List DiskName) (k n : ℕ) → ((i : ℕ) → number (f i) ≡ base + i) → mid ≡ base + k → end_ ≡ mid + n → Follow from xs mid → Follow from (xs ++ values_from f k n) end_
+  follow_more f base from mid end_ [] k zero at mid_is end_is is = omega (arith, is, end_is)
+  follow_more f base from mid end_ [] k (suc n) at mid_is end_is is = (at k ∙ sym mid_is ∙ sym is, follow_more f base (suc from) (suc mid) end_ [] (suc k) n at (omega (arith, mid_is)) (omega (arith, end_is)) (ap suc is))
+  follow_more f base from mid end_ (x ∷ xs) k n at mid_is end_is is = (is.0, follow_more f base (suc from) mid end_ xs k n at mid_is end_is is.1)
 
   follow_all : Follow 1 all (first 4)
   follow_all =
-      let sites : Follow 1 site_names 7 = (refl, (refl, (refl, (refl, (refl, (refl, refl)))))) in
-      let to = follow_both 1 7 (first 0) site_names rs sites (follow_value (λ r. name.Replica r) 7 0 replicas 7 (first 0) (λ k. refl) (omega arith) (omega arith)) in
-      let one = follow_both 1 (first 0) (first 1) to_rs (es 0) to (follow_value (λ j. name.Epoch 0 j) (first 0) 0 joiners (first 0) (first 1) (λ k. refl) (omega arith) (omega arith)) in
-      let two = follow_both 1 (first 1) (first 2) (to_rs ++ es 0) (es 1) one (follow_value (λ j. name.Epoch 1 j) (first 1) 0 joiners (first 1) (first 2) (λ k. refl) (omega arith) (omega arith)) in
-      let three = follow_both 1 (first 2) (first 3) to_es (os 0) two (follow_value (λ j. name.Output 0 j) (first 2) 0 joiners (first 2) (first 3) (λ k. refl) (omega arith) (omega arith)) in
-      follow_both 1 (first 3) (first 4) (to_es ++ os 0) (os 1) three (follow_value (λ j. name.Output 1 j) (first 3) 0 joiners (first 3) (first 4) (λ k. refl) (omega arith) (omega arith))
+      let replicas_follow = follow_more (λ r. name.Replica r) 7 7 7 (first 0) [] 0 replicas (λ i. refl) refl (omega arith) refl in
+      let one = follow_more (λ j. name.Epoch 0 j) (first 0) 7 (first 0) (first 1) _ 0 joiners (λ i. refl) (omega arith) (omega arith) replicas_follow in
+      let two = follow_more (λ j. name.Epoch 1 j) (first 1) 7 (first 1) (first 2) _ 0 joiners (λ i. refl) (omega arith) (omega arith) one in
+      let three = follow_more (λ j. name.Output 0 j) (first 2) 7 (first 2) (first 3) _ 0 joiners (λ i. refl) (omega arith) (omega arith) two in
+      (refl, (refl, (refl, (refl, (refl, (refl, follow_more (λ j. name.Output 1 j) (first 3) 7 (first 3) (first 4) _ 0 joiners (λ i. refl) (omega arith) (omega arith) three))))))
 
   above : (from end_ : ℕ) (ns : List DiskName) → Follow from ns end_ → Each (λ n. from ≤ number n) ns
   above from end_ [] is = tt
-  above from end_ (n ∷ ns) is = grind (arith, each_weaker, above (suc from) end_ ns is.1)
+  above from end_ (n ∷ ns) is = grind (arith, each_more, above (suc from) end_ ns is.1)
 
   apart : (from end_ : ℕ) (ns : List DiskName) → Follow from ns end_ → EachPair (λ one other. one ≢ other) ns
   apart from end_ [] is = tt
-  apart from end_ (n ∷ ns) is = grind (arith, each_weaker, above, apart (suc from) end_ ns is.1)
+  apart from end_ (n ∷ ns) is = grind (arith, each_more, above, apart (suc from) end_ ns is.1)
 
   pub others_apart : EachPair (λ one other. one ≢ other) all
   others_apart = apart 1 (first 4) all follow_all
@@ -176,42 +136,27 @@ module _ (joiners replicas : ℕ) where
   -- ---- lists that they give
 
   module _ {X : Type 0} (h : DiskName → List X) (v : ℕ → X) (none : flat_map h site_names ≡ []) (epochs : (s j : ℕ) → h (name.Epoch s j) ≡ []) where
-    no_epoch : (s : ℕ) → Each (λ n. h n ≡ []) (es s)
-    no_epoch s = each_value (λ n. h n ≡ []) (λ j. name.Epoch s j) 0 joiners (λ k lt. epochs s k)
+    behind : flat_map h all ≡ flat_map h rest
+    behind = flat_map-append h site_names rest ∙ ap (λ (xs : List X). xs ++ flat_map h rest) none
 
-    no_output : ((s j : ℕ) → h (name.Output s j) ≡ []) → (s : ℕ) → Each (λ n. h n ≡ []) (os s)
-    no_output outputs s = each_value (λ n. h n ≡ []) (λ j. name.Output s j) 0 joiners (λ k lt. outputs s k)
+    no_epoch : (s : ℕ) → flat_map h (values_from (λ j. name.Epoch s j) 0 joiners) ≡ []
+    no_epoch s = none_value h (λ j. name.Epoch s j) joiners (epochs s)
 
     pub by_replicas : ((r : ℕ) → h (name.Replica r) ≡ v r ∷ []) → ((s j : ℕ) → h (name.Output s j) ≡ []) → flat_map h all ≡ values_from v 0 replicas
     by_replicas is outputs =
-        flat_front h (to_es ++ os 0) (os 1) (no_output outputs 1) ∙ flat_front h to_es (os 0) (no_output outputs 0) ∙ flat_front h (to_rs ++ es 0) (es 1) (no_epoch 1) ∙ flat_front h to_rs (es 0) (no_epoch 0)
-        ∙ flat_back h site_names rs none ∙ flat_value h (λ r. name.Replica r) v 0 replicas is
+        grind (arith, behind, flat_map-append, append-nil, no_epoch 0, no_epoch 1, none_value h (λ j. name.Output 0 j) joiners (outputs 0), none_value h (λ j. name.Output 1 j) joiners (outputs 1), flat_value h (λ r. name.Replica r) v 0 replicas is)
 
     pub by_outputs : (w : ℕ → X) → ((r : ℕ) → h (name.Replica r) ≡ []) → ((j : ℕ) → h (name.Output 0 j) ≡ v j ∷ []) → ((j : ℕ) → h (name.Output 1 j) ≡ w j ∷ [])
         → flat_map h all ≡ values_from v 0 joiners ++ values_from w 0 joiners
     by_outputs w replica one other =
-        let before : flat_map h to_es ≡ [] =
-        flat_front h (to_rs ++ es 0) (es 1) (no_epoch 1) ∙ flat_front h to_rs (es 0) (no_epoch 0) ∙ flat_front h site_names rs (each_value (λ n. h n ≡ []) (λ r. name.Replica r) 0 replicas (λ k lt. replica k)) ∙ none in
-        let first_ones = flat_back h to_es (os 0) before ∙ flat_value h (λ j. name.Output 0 j) v 0 joiners one in
-        flat_map-append h (to_es ++ os 0) (os 1) ∙ ap (λ (xs : List X). xs ++ flat_map h (os 1)) first_ones
-        ∙ ap (λ (xs : List X). values_from v 0 joiners ++ xs) (flat_value h (λ j. name.Output 1 j) w 0 joiners other)
+        grind (arith, behind, flat_map-append, no_epoch 0, no_epoch 1, none_value h (λ r. name.Replica r) replicas replica, flat_value h (λ j. name.Output 0 j) v 0 joiners one, flat_value h (λ j. name.Output 1 j) w 0 joiners other)
 
 -- ---- they are the setting's
 
 module _ (g : Setting) where
-  in_setting : (n : ℕ) → n ≤ g.config.joiners → (disk : DiskName) → IsNamed n g.config.replicas disk → IsDisk g disk
-  in_setting n le name.Topology is = absurd is
-  in_setting n le (name.Epoch s j) is = (is.0, omega (arith, is.1, le))
-  in_setting n le (name.Output s j) is = (is.0, omega (arith, is.1, le))
-  in_setting n le _ is = is
-
   pub others_are : (n : ℕ) → n ≤ g.config.joiners → Each (IsDisk g) (other_names n g.config.replicas)
-  others_are n le = each_weaker (IsNamed n g.config.replicas) (IsDisk g) (in_setting n le) (other_names n g.config.replicas) (each_named n g.config.replicas)
-
-  is_other : (disk : DiskName) → IsDisk g disk → disk ≢ name.Topology → IsNamed g.config.joiners g.config.replicas disk
-  is_other name.Topology here other = absurd (other refl)
-  is_other _ here other = here
+  others_are n le = each_more (IsNamed n g.config.replicas) (IsDisk g) (other_names n g.config.replicas) (λ disk is. grind arith) (each_named n g.config.replicas)
 
   -- and all of them but the topology's
   pub all_named : (disk : DiskName) → IsDisk g disk → disk ≢ name.Topology → Mem disk (other_names g.config.joiners g.config.replicas)
-  all_named disk here other = is_named g.config.joiners g.config.replicas disk (is_other disk here other)
+  all_named disk here other = is_named g.config.joiners g.config.replicas disk (grind arith)

@@ -1,5 +1,5 @@
 -- Disks that are taken, used and given back by their plans of stops.
-use Rattle.std.proofs.Common.{◌≡◌, ◌≢◌, ℕ, Bool, false, List, [], ◌∷◌, ◌++◌, Option, ◌∙◌, refl, subst, arith}
+use Rattle.std.proofs.Common.{◌≡◌, ◌≢◌, ℕ, Bool, false, List, [], ◌∷◌, ◌++◌, map, Option, ◌∙◌, refl, ap, subst, arith}
 use Rattle.outside.specs.Faults.{added}
 use Rattle.outside.specs.Plans.{AtMost, MeetsPlan}
 use Rattle.outside.proofs.Plans.{fewer, same_plan}
@@ -8,10 +8,9 @@ use Rattle.site_store.specs.Plans.{Left, HasSoon, IsByPlan, IsAsPlanned, AllAsPl
 use Rattle.outside.specs.declared.disk.Disk as disk
 use Rattle.outside.specs.declared.store.Store as store
 use Rattle.outside.specs.declared.store.DiskName.TheVariants as name
-use Rattle.run_fault.specs.declared.fault.StorePlace.TheVariants as place
 use Rattle.run_fault.specs.declared.fault.RunFault.TheVariants as fault
-use Rattle.site_store.proofs.Words.{Each, DiskName, Lent, Lacks, JournalFault, Memory, StorePlace, RunFault, KeptValues, Topology, KeptDisk, Misplaced, IsUnfit, IsUnopened, IsUnwritten, told_by}
-use Rattle.site_store.proofs.Lending.{each_both, each_front, each_back, each_weaker}
+use Rattle.site_store.proofs.Words.{map-append, Each, each_append, each_more, DiskName, Lent, Lacks, JournalFault, StorePlace, RunFault, KeptValues, Topology, KeptDisk, Misplaced, IsUnfit, IsUnopened, IsUnwritten, told_by}
+use Rattle.site_store.proofs.Lending.{each_front, each_back}
 
 -- a disk that met no fault adds none
 pub none_added : (old new more : ℕ) → new ≡ added old more → more ≡ 0 → new ≡ old
@@ -58,7 +57,14 @@ module _ {D : Type 0} (stops : D → ℕ → Bool) (made faults : D → ℕ) whe
 
   -- none of them met a fault
   pub each_calm : (left : DiskName → ℕ → Type 0) (lent : List (Lent D)) → AllAsPlanned stops made faults left lent → Each (λ l. faults l.disk ≡ 0) lent
-  each_calm left lent all = each_weaker (λ (l : Lent D). IsAsPlanned stops made faults (left l.name) l.disk) (λ l. faults l.disk ≡ 0) (λ l so. so.calm) lent all
+  each_calm left lent all = each_more (λ (l : Lent D). IsAsPlanned stops made faults (left l.name) l.disk) (λ l. faults l.disk ≡ 0) lent (λ l so. so.calm) all
+
+-- the last of some disks is given back, none of which met a fault
+pub last_calm : {D X : Type 0} (faults : D → ℕ) (f : X → Lent D) (all rest : List X) (one : X) (old mid new : ℕ) → all ≡ rest ++ one ∷ [] → new ≡ added mid (faults (f one).disk)
+    → Each (λ l. faults l.disk ≡ 0) (map f all) × (mid ≡ old) → Each (λ l. faults l.disk ≡ 0) (map f rest) × (new ≡ old)
+last_calm {D} faults f all rest one old mid new cut is calm =
+    let split = subst (Each (λ (l : Lent D). faults l.disk ≡ 0)) (ap (map f) cut ∙ map-append f rest (one ∷ [])) calm.0 in
+    (each_front (λ (l : Lent D). faults l.disk ≡ 0) (map f rest) (f one ∷ []) split, none_added _ _ _ is (each_back (λ (l : Lent D). faults l.disk ≡ 0) (map f rest) (f one ∷ []) split).0 ∙ calm.1)
 
 -- ---- disks of a store
 
@@ -97,7 +103,7 @@ module _ {D S : Type 0} (d : disk.Ghosts D) (s : store.Ghosts S D) where
   -- some disks, and then some others
   pub taken_on : (before mid after : S) (xs ys : List (Lent D)) → Taken before mid xs → Each (λ y. Lacks xs y.name) ys → Taken mid after ys → Taken before after (xs ++ ys)
   taken_on before mid after xs ys first apart next = record {
-    out = each_both (Planned before) xs ys first.out (moved before mid xs first ys apart next.out);
+    out = each_append (Planned before) xs ys first.out (moved before mid xs first ys apart next.out);
     others = λ name lacks. grind (arith, each_front, each_back);
     still = next.still ∙ first.still;
   }

@@ -1,10 +1,9 @@
 -- The records of a setting's nodes that its disks keep.
-use Rattle.std.proofs.Common.{◌≡◌, ◌≢◌, ◌⊎◌, inl, inr, ℕ, zero, suc, ◌+◌, ◌-◌, ◌*◌, ◌<◌, nat_lt, List, [], ◌∷◌, map, Bool, true, cond, IsTrue, Option, Some, None, refl, sym, ◌∙◌, ap, subst, arith}
-use Rattle.site_store.proofs.Words.{Each, EachPair, Mem, DiskName, ReplicaNote, PairRec, Setting, first_joiner, JoinerKept, ReplicaKept, IsKeptIn, kept_of, Disks, StoreTopology, topology_of, WholeSound, TopologyComesFirst, IsDisk, KeepsOf, KeepsVotes, IsSoundStore, AreLeft, joiner_of, topology_read, ReadTopologyIsKept, ReadNotesAreKept, OpenedIsWhole, joiners_kept, Kept, OffsetIs, PendingAre, EpochIs, NotesAre, PairsAre, KeptDisk, KeptValues, KeepsAs, IsOfKind, IsKept, AreKept, Says, AreRecordsOf, other_names}
+use Rattle.std.proofs.Common.{◌≡◌, ◌≢◌, ◌⊎◌, inl, inr, ℕ, zero, suc, ◌+◌, ◌-◌, ◌*◌, ◌<◌, nat_lt, List, [], map, Bool, true, cond, IsTrue, Option, Some, None, sym, ◌∙◌, ap, subst, arith}
+use Rattle.site_store.proofs.Words.{Each, EachPair, each_from, Mem, DiskName, ReplicaNote, PairRec, Setting, first_joiner, JoinerKept, ReplicaKept, IsKeptIn, kept_of, Disks, StoreTopology, topology_of, WholeSound, TopologyComesFirst, IsDisk, KeepsOf, KeepsVotes, IsSoundStore, AreLeft, joiner_of, topology_read, ReadTopologyIsKept, ReadNotesAreKept, OpenedIsWhole, joiners_kept, Kept, OffsetIs, PendingAre, EpochIs, NotesAre, PairsAre, KeptDisk, KeptValues, KeepsAs, IsOfKind, IsKept, AreKept, Says, AreRecordsOf, other_names}
 use Rattle.outside.specs.declared.store.DiskName.TheVariants as name
-use Rattle.site_store.proofs.Lending.{each_mem}
+use Rattle.site_store.proofs.Lending.{each_mem, same_or_not}
 use Rattle.site_store.proofs.Names.{all_named}
-use Rattle.site_store.proofs.SameNames.{same_or_not}
 use Rattle.site_store.proofs.Values.{at_name, find_name, one_named, named_mem}
 
 -- ---- what is kept of records is kept as they say
@@ -24,7 +23,7 @@ module _ (tells : Bool) (sure : IsTrue tells) (image : DiskName → List ℕ →
   records_left read disk here = elim (same_or_not disk name.Topology) [
     | inl is ↦ let x = kept.topology sure in subst (λ (n : DiskName). IsKeptIn (image n) (KeepsOf g d n)) (sym is) (x.0, x.1, tt)
     | inr not ↦
-        let o = at_name k.disks disk (subst (Mem disk) (sym (kept.named ∙ ap (λ n. other_names n g.config.replicas) same)) (all_named g disk here not)) in
+        let o = at_name (λ (d : KeptDisk). d.name) k.disks disk (subst (Mem disk) (sym (kept.named ∙ ap (λ n. other_names n g.config.replicas) same)) (all_named g disk here not)) in
         let x = each_mem (IsKept image) o.0 k.disks (kept.kept sure) o.1 in
         let says = each_mem (λ (e : KeptDisk). Says g d e.name e.kept) o.0 k.disks of o.1 in
         subst (λ (n : DiskName). IsKeptIn (image n) (KeepsOf g d n)) o.2 (x.0, x.1, keeps_of read g d o.0.name o.0.kept x.0 says x.2)
@@ -101,26 +100,16 @@ records_of g disks = record {
 place_is : (first many s j : ℕ) → first + s * many + j - first ≡ s * many + j
 place_is first many s j = omega arith
 
-says_at : (g : Setting) (disks : List KeptDisk) (n : DiskName) (kept : Kept) → IsOfKind n kept → IsDisk g n → kept_at disks n ≡ Some kept → Says g (records_of g disks) n kept
-says_at g disks name.Topology kept (v, is) here at = tt
-says_at g disks (name.Offset s) kept (v, is) here at = is ∙ ap OffsetIs (sym (ap offset_in (at ∙ ap Some is)))
-says_at g disks (name.Retry s) kept (v, is) here at = is ∙ ap PendingAre (sym (ap pending_in (at ∙ ap Some is)))
-says_at g disks (name.Server s) kept (v, is) here at = is ∙ ap EpochIs (sym (ap epoch_in (at ∙ ap Some is)))
-says_at g disks (name.Replica r) kept (v, is) here at = (v, is, ap (λ o. kept_of (notes_in o)) (at ∙ ap Some is))
-says_at g disks (name.Epoch s j) kept (v, is) here at =
-    let so = joiner_in g.config.joiners s j (joiner_of g s j - first_joiner g) here.0 here.1 (place_is (first_joiner g) g.config.joiners s j) in
-    let one : joiner_disks g disks (site_in g.config.joiners (joiner_of g s j - first_joiner g)) (place_in g.config.joiners (joiner_of g s j - first_joiner g)) ≡ joiner_disks g disks s j =
-    ap (λ i. joiner_disks g disks i (place_in g.config.joiners (joiner_of g s j - first_joiner g))) so.0 ∙ ap (joiner_disks g disks s) so.1 in
-    is ∙ ap EpochIs (sym (ap (λ (x : JoinerKept). x.epoch) one ∙ ap epoch_in (at ∙ ap Some is)))
-says_at g disks (name.Output s j) kept (v, is) here at =
-    let so = joiner_in g.config.joiners s j (joiner_of g s j - first_joiner g) here.0 here.1 (place_is (first_joiner g) g.config.joiners s j) in
-    let one : joiner_disks g disks (site_in g.config.joiners (joiner_of g s j - first_joiner g)) (place_in g.config.joiners (joiner_of g s j - first_joiner g)) ≡ joiner_disks g disks s j =
-    ap (λ i. joiner_disks g disks i (place_in g.config.joiners (joiner_of g s j - first_joiner g))) so.0 ∙ ap (joiner_disks g disks s) so.1 in
-    is ∙ ap PairsAre (sym (ap (λ (x : JoinerKept). x.pairs) one ∙ ap pairs_in (at ∙ ap Some is)))
+seat : (g : Setting) (disks : List KeptDisk) (s j : ℕ) → s < 2 → j < g.config.joiners → (records_of g disks).joiners (joiner_of g s j) ≡ joiner_disks g disks s j
+seat g disks s j lt below =
+    let so = joiner_in g.config.joiners s j (joiner_of g s j - first_joiner g) lt below (place_is (first_joiner g) g.config.joiners s j) in
+    ap (λ i. joiner_disks g disks i (place_in g.config.joiners (joiner_of g s j - first_joiner g))) so.0 ∙ ap (joiner_disks g disks s) so.1
 
-pub each_from : {A : Type 0} (P : A → Type 0) (xs : List A) → ((x : A) → Mem x xs → P x) → Each P xs
-each_from P [] f = tt
-each_from P (x ∷ xs) f = (f x (inl refl), each_from P xs (λ y m. f y (inr m)))
+says_at : (g : Setting) (disks : List KeptDisk) (n : DiskName) (kept : Kept) → IsOfKind n kept → IsDisk g n → kept_at disks n ≡ Some kept → Says g (records_of g disks) n kept
+says_at g disks (name.Replica r) kept (v, is) here at = (v, is, ap (λ o. kept_of (notes_in o)) (at ∙ ap Some is))
+says_at g disks (name.Epoch s j) kept (v, is) here at = is ∙ ap EpochIs (sym (ap (λ (x : JoinerKept). x.epoch) (seat g disks s j here.0 here.1) ∙ ap epoch_in (at ∙ ap Some is)))
+says_at g disks (name.Output s j) kept (v, is) here at = is ∙ ap PairsAre (sym (ap (λ (x : JoinerKept). x.pairs) (seat g disks s j here.0 here.1) ∙ ap pairs_in (at ∙ ap Some is)))
+says_at g disks _ kept (v, is) here at = grind arith
 
 -- the records of disks of a setting with so many joiners
 pub are_records : (g : Setting) (disks : List KeptDisk) (names : List DiskName) → map (λ d. d.name) disks ≡ names → EachPair (λ one other. one ≢ other) names → Each (IsDisk g) names

@@ -3,6 +3,7 @@ use Rattle.std.proofs.Common.{◌≡◌, ℕ, zero, suc, ◌+◌, ◌*◌, ◌<�
 use Rattle.std.specs.Prelude.{flat_map}
 use Rattle.site_store.proofs.Words.{map-append, Each, DiskName, PairRec, note_view, Topology, Setting, first_joiner, BallotNote, ReplicaKept, joiners_kept, journals, values_from, Disks, Store, AreOf, TellsTheReport, joiner_of, ReadTopologyIsKept, ReadNotesAreKept, OpenedIsWhole, Kept, KeptDisk, KeptValues, IsOfKind, AreKept, Says, AreRecordsOf, other_names, IsAsked, ArePassed, KeptStore, notes_at, pairs_at, IsOfValues, IsRead, Tells}
 use Rattle.outside.specs.declared.store.DiskName.TheVariants as name
+use Rattle.site_store.proofs.Lending.{each_two}
 use Rattle.site_store.proofs.Names.{by_outputs, by_replicas, others_apart, others_are}
 use Rattle.site_store.proofs.Recorded.{left_with, records_of, are_records}
 use Rattle.site_store.proofs.Values.{by_names}
@@ -21,10 +22,6 @@ values_both {X} f a (suc n) m =
     let next : suc a + n ≡ a + suc n = omega arith in
     let last : suc (n + m) ≡ suc n + m = omega arith in
     ap (λ (xs : List X). f a ∷ xs) (ap (λ k. values_from f (suc a) n ++ values_from f k m) (sym next) ∙ values_both f (suc a) n m) ∙ ap (values_from f a) last
-
-each_two : {A : Type 0} (P Q R : A → Type 0) (xs : List A) → ((x : A) → P x → Q x → R x) → Each P xs → Each Q xs → Each R xs
-each_two P Q R [] f h k = tt
-each_two P Q R (x ∷ xs) f h k = (f x h.0 k.0, each_two P Q R xs f h.1 k.1)
 
 map_flat : {A X Y : Type 0} (f : A → List X) (v : X → Y) (as_ : List A) → map v (flat_map f as_) ≡ flat_map (λ a. map v (f a)) as_
 map_flat f v [] = refl

@@ -1,14 +1,13 @@
 -- What a sound store keeps isn't refused: no topology, no place of the click log, and no disk as damaged.
 use Rattle.std.proofs.Common.{◌≡◌, ◌≢◌, inl, inr, ℕ, ◌≤◌, List, map, Bool, IsTrue, true, Option, Some, None, refl, sym, ◌∙◌, ap, subst, arith}
-use Rattle.site_store.proofs.Words.{Each, EachPair, Mem, has, DiskName, KeepsPending, pending_of, end_from, Topology, Keeps, Setting, IsLogOf, joiners_kept, IsMisfit, RunFault, IsWelcome, Fits, places_at, all_kept, PlainTopology, topology_of, Bytes, IsDisk, KeepSound, IsSoundStore, ReadTopologyIsKept, TopologyFits, choose, one_value, Kept, KeptDisk, KeptValues, KeepsAs, IsOfKind, IsKept, AreKept, IsAsked, IsCause, LeavesSomething, other_names}
+use Rattle.site_store.proofs.Words.{Each, EachPair, Mem, has, DiskName, KeepsOffset, KeepsPending, offset_of, pending_of, IsBoundary, end_from, Topology, Keeps, Setting, IsLogOf, joiners_kept, IsMisfit, RunFault, IsWelcome, Fits, places_at, all_kept, PlainTopology, topology_of, Bytes, IsDisk, KeepSound, IsSoundStore, ReadTopologyIsKept, TopologyFits, choose, one_value, Kept, KeptDisk, KeptValues, KeepsAs, IsOfKind, IsKept, AreKept, IsAsked, IsCause, LeavesSomething, other_names}
 use Rattle.outside.specs.declared.store.DiskName.TheVariants as name
 use Rattle.run_fault.specs.declared.fault.Mismatch.TheVariants as mismatch
 use Rattle.run_fault.specs.declared.fault.RunFault.TheVariants as fault
 use Rattle.site_store.proofs.Damage.{kept_joiners, no_damage}
 use Rattle.site_store.proofs.Leaving.{joiners_same}
-use Rattle.site_store.proofs.Lending.{each_mem}
+use Rattle.site_store.proofs.Lending.{each_mem, same_or_not}
 use Rattle.site_store.proofs.Names.{others_apart, others_are, not_topology, all_named}
-use Rattle.site_store.proofs.SameNames.{same_or_not}
 use Rattle.site_store.proofs.Telling.{all_fit, first_clash, of_starts}
 use Rattle.site_store.proofs.Values.{at_name, find_name, named_mem, one_named}
 
@@ -21,14 +20,14 @@ module _ (tells : Bool) (sure : IsTrue tells) (image : DiskName → List ℕ →
   something same disk here = elim (same_or_not disk name.Topology) [
     | inl is ↦ let x = kept.topology sure in (x.0, subst (λ (n : DiskName). image n x.0) (sym is) x.1)
     | inr not ↦
-        let d = at_name k.disks disk (subst (Mem disk) (sym (kept.named ∙ ap (λ n. other_names n g.config.replicas) same)) (all_named g disk here not)) in
+        let d = at_name (λ (d : KeptDisk). d.name) k.disks disk (subst (Mem disk) (sym (kept.named ∙ ap (λ n. other_names n g.config.replicas) same)) (all_named g disk here not)) in
         let x = each_mem (IsKept image) d.0 k.disks (kept.kept sure) d.1 in
         (x.0, subst (λ (n : DiskName). image n x.0) d.2 x.1)
   ]
 
   module _ (some : LeavesSomething g image) (sound : IsSoundStore g image) where
     no_topology : (d : KeptDisk) → Mem d k.disks → d.name ≢ name.Topology
-    no_topology d among = each_mem (λ (n : DiskName). n ≢ name.Topology) d.name _ (subst (Each (λ (n : DiskName). n ≢ name.Topology)) (sym kept.named) (not_topology many g.config.replicas)) (named_mem k.disks d among)
+    no_topology d among = each_mem (λ (n : DiskName). n ≢ name.Topology) d.name _ (subst (Each (λ (n : DiskName). n ≢ name.Topology)) (sym kept.named) (not_topology many g.config.replicas)) (named_mem (λ (d : KeptDisk). d.name) k.disks d among)
 
     -- what the chosen bytes of a disk keep
     abbrev Was : DiskName → List ℕ → Type 0
@@ -43,7 +42,7 @@ module _ (tells : Bool) (sure : IsTrue tells) (image : DiskName → List ℕ →
         | inl found ↦
             let x = each_mem (IsKept image) found.0 k.disks (kept.kept sure) found.1 in
             let apart : EachPair (λ one other. one ≢ other) (map (λ d. d.name) k.disks) = subst (EachPair (λ one other. one ≢ other)) (sym kept.named) (others_apart many g.config.replicas) in
-            (x.0, (subst (λ (n : DiskName). image n x.0) found.2 x.1, (λ d among named. subst (λ (o : KeptDisk). KeepsAs o.kept x.0) (one_named k.disks apart found.0 d found.1 among (found.2 ∙ sym named)) x.2, λ e. absurd (not e))))
+            (x.0, (subst (λ (n : DiskName). image n x.0) found.2 x.1, (λ d among named. subst (λ (o : KeptDisk). KeepsAs o.kept x.0) (one_named (λ (d : KeptDisk). d.name) k.disks apart found.0 d found.1 among (found.2 ∙ sym named)) x.2, λ e. absurd (not e))))
         | inr none ↦ let x = some disk here in (x.0, (x.1, (λ d among named. absurd (none d among named), λ e. absurd (not e))))
       ]
     ]
@@ -64,20 +63,19 @@ module _ (tells : Bool) (sure : IsTrue tells) (image : DiskName → List ℕ →
     topology_is read fits t is = grind (arith, all_sound)
 
     fits_at : (n : DiskName) (kd : Kept) → IsOfKind n kd → IsDisk g n → KeepsAs kd (chosen.0 n) → Each (Fits g.clicks) (places_at n kd)
-    fits_at name.Topology kd (v, is) here keeps = subst (λ (x : Kept). Each (Fits g.clicks) (places_at name.Topology x)) (sym is) tt
-    fits_at (name.Offset s) kd (v, is) here keeps = grind (arith, all_sound)
+    fits_at (name.Offset s) kd (v, is) here keeps =
+        let own : KeepsOffset v (chosen.0 (name.Offset s)) = subst (λ (x : Kept). KeepsAs x (chosen.0 (name.Offset s))) is keeps in
+        let same = one_value (offset_of (chosen.0 (name.Offset s))) _ _ (all_sound.1.records (name.Offset s) here) own in
+        subst (λ (x : Kept). Each (Fits g.clicks) (places_at (name.Offset s) x)) (sym is) (subst (IsBoundary g.clicks) same (all_sound.2.records.dispatchers s here).boundary, tt)
     fits_at (name.Retry s) kd (v, is) here keeps =
         let own : KeepsPending v (chosen.0 (name.Retry s)) = subst (λ (x : Kept). KeepsAs x (chosen.0 (name.Retry s))) is keeps in
         let same = one_value (pending_of (chosen.0 (name.Retry s))) _ _ (all_sound.1.records (name.Retry s) here) own in
         subst (λ (x : Kept). Each (Fits g.clicks) (places_at (name.Retry s) x)) (sym is)
         (of_starts g.clicks s v (λ p e. (all_sound.2.records.dispatchers s here).starts p (subst (λ (ps : List ℕ). has ps p ≡ true) (sym same) e)))
-    fits_at (name.Server s) kd (v, is) here keeps = subst (λ (x : Kept). Each (Fits g.clicks) (places_at (name.Server s) x)) (sym is) tt
-    fits_at (name.Replica r) kd (v, is) here keeps = subst (λ (x : Kept). Each (Fits g.clicks) (places_at (name.Replica r) x)) (sym is) tt
-    fits_at (name.Epoch s j) kd (v, is) here keeps = subst (λ (x : Kept). Each (Fits g.clicks) (places_at (name.Epoch s j) x)) (sym is) tt
-    fits_at (name.Output s j) kd (v, is) here keeps = subst (λ (x : Kept). Each (Fits g.clicks) (places_at (name.Output s j) x)) (sym is) tt
+    fits_at _ kd (v, is) here keeps = grind arith
 
     pub are_disks : many ≤ g.config.joiners → (d : KeptDisk) → Mem d k.disks → IsDisk g d.name
-    are_disks le d among = each_mem (IsDisk g) d.name _ (subst (Each (IsDisk g)) (sym kept.named) (others_are g many le)) (named_mem k.disks d among)
+    are_disks le d among = each_mem (IsDisk g) d.name _ (subst (Each (IsDisk g)) (sym kept.named) (others_are g many le)) (named_mem (λ (d : KeptDisk). d.name) k.disks d among)
 
     pub places_fit : many ≤ g.config.joiners → Each (Fits g.clicks) (all_kept k.disks)
     places_fit le = all_fit g.clicks k.disks (λ d among.

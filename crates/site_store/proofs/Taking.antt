@@ -1,15 +1,13 @@
 -- The topology's disk, which is taken first, and the others behind it.
-use Rattle.std.proofs.Common.{◌≢◌, inl, inr, ℕ, List, [], ◌∷◌, Bool, IsTrue, sym, subst, arith}
-use Rattle.site_store.proofs.Words.{Each, DiskName, Within, IsOpened, StaysAs, Lacks, OpenView, IsKept, kept_by, lent_all, WereJournals, IsFirst}
-use Rattle.site_store.proofs.Lending.{each_front, each_back}
-use Rattle.site_store.proofs.SameNames.{same_or_not}
+use Rattle.std.proofs.Common.{◌≢◌, inl, inr, ℕ, List, ◌∷◌, Bool, IsTrue, sym, subst, arith}
+use Rattle.site_store.proofs.Words.{Each, DiskName, Within, IsOpened, StaysAs, Lacks, OpenView, IsKept, IsKeptIn, IsJournalOf, kept_by, lent_by, lent_all, WereJournals, IsFirst}
+use Rattle.site_store.proofs.Lending.{each_front, each_back, each_two, each_unmap, same_or_not}
 
 -- each other disk leaves nothing new
 module _ (before mid : DiskName → List ℕ → Type 0) (name : DiskName) (others : (other : DiskName) → other ≢ name → Within (before other) (mid other)) where
   -- what others kept then they kept at first
   pub kept_before : {D : Type 0} (all : List (OpenView D)) → Lacks (lent_all all) name → Each (λ o. IsKept mid (kept_by o)) all → Each (λ o. IsKept before (kept_by o)) all
-  kept_before [] away kept = tt
-  kept_before (o ∷ os) away kept = let x = kept.0 in ((x.0, others o.name away.0 x.0 x.1, x.2), kept_before os away.1 kept.1)
+  kept_before {D} all away kept = each_two (λ (o : OpenView D). o.name ≢ name) (λ o. IsKept mid (kept_by o)) (λ o. IsKept before (kept_by o)) all (λ o not x. (x.0, others o.name not x.0 x.1, x.2)) (each_unmap _ lent_by all away) kept
 
   -- all were given back, and this disk too
   pub back_again : (inside after : DiskName → List ℕ → Type 0) (left : List ℕ → Type 0) → StaysAs (before name) left → ((n : DiskName) → StaysAs (mid n) (inside n)) → Within left (after name)
@@ -20,8 +18,7 @@ module _ (before mid : DiskName → List ℕ → Type 0) (name : DiskName) (othe
   ]
 
   journals_before : (names : List DiskName) → Each (λ n. n ≢ name) names → WereJournals mid names → WereJournals before names
-  journals_before [] away were = tt
-  journals_before (n ∷ ns) away were = let x = were.0 in ((x.0, others n away.0 x.0 x.1, x.2), journals_before ns away.1 were.1)
+  journals_before names = each_two (λ n. n ≢ name) (λ n. IsKeptIn (mid n) (IsJournalOf n)) (λ n. IsKeptIn (before n) (IsJournalOf n)) names (λ n not x. (x.0, others n not x.0 x.1, x.2))
 
 -- none of these is the disk of this name
 pub first_other : (tells : Bool) (image : DiskName → List ℕ → Type 0) (name : DiskName) (names : List DiskName) (n : DiskName) → Each (λ m. m ≢ name) names → IsFirst tells image names n → n ≢ name

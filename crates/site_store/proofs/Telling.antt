@@ -2,7 +2,7 @@
 use Rattle.std.proofs.Common.{zero, suc, ◌≤◌, ◌≡◌, ◌≢◌, inl, inr, ⊎_elim, ℕ, ◌+◌, ◌==◌, true, false, ◌<◌, List, [], ◌∷◌, ◌++◌, length, take, drop, get_or, map, Option, Some, refl, sym, ap, subst, ◌∙◌, append_assoc, arith}
 use Rattle.site_store.proofs.Words.{eqb-true, eq-eqb, or_cases, or_left, or_right, map-append, drop_more, take-append-drop, Each, Mem, has, clash, each_append, DiskName, Offset, Retry, ClickLine, Setting, AreKeptPlaces, IsFloorOf, Disks, Kept, OffsetIs, PendingAre, KeptDisk, OpenView, kept_all, Says, AreRecordsOf, FitsOn, KeptPlace, Fits, IsStart, on_disk, places_at, all_kept, IsTold, Misplaced}
 use Rattle.site_store.specs.Kept.{IsFirst}
-use Rattle.site_store.proofs.Lending.{each_mem}
+use Rattle.site_store.proofs.Lending.{each_back, each_front, each_mem}
 use Rattle.site_store.proofs.Values.{at_name}
 
 -- what has P isn't above its floor
@@ -35,22 +35,14 @@ module _ (ls : List ClickLine) where
 
 -- ---- those of several disks
 
-each_behind : (P : KeptPlace → Type 0) (xs ys : List KeptPlace) → Each P (xs ++ ys) → Each P ys
-each_behind P [] ys h = h
-each_behind P (x ∷ xs) ys h = each_behind P xs ys h.1
-
-each_before : (P : KeptPlace → Type 0) (xs ys : List KeptPlace) → Each P (xs ++ ys) → Each P xs
-each_before P [] ys h = tt
-each_before P (x ∷ xs) ys h = (h.0, each_before P xs ys h.1)
-
 -- what is told isn't kept where all fit
 pub first_clash : (ls : List ClickLine) (xs : List KeptPlace) (m : Misplaced) → IsFirst ls xs m → Each (Fits ls) xs → ⊥
-first_clash ls xs m h all = grind (arith, each_behind)
+first_clash ls xs m h all = grind (arith, each_back)
 
 -- the places of a disk among these fit where all do
 pub fit_at : (ls : List ClickLine) (disks : List KeptDisk) (d : KeptDisk) → Each (Fits ls) (all_kept disks) → Mem d disks → Each (Fits ls) (places_at d.name d.kept)
 fit_at ls [] d all m = absurd m
-fit_at ls (o ∷ os) d all h = grind (arith, each_before, each_behind, fit_at ls os d)
+fit_at ls (o ∷ os) d all h = grind (arith, each_front, each_back, fit_at ls os d)
 
 -- all fit where those of each disk do
 pub all_fit : (ls : List ClickLine) (disks : List KeptDisk) → ((d : KeptDisk) → Mem d disks → Each (Fits ls) (places_at d.name d.kept)) → Each (Fits ls) (all_kept disks)
@@ -87,8 +79,8 @@ module _ (ls : List ClickLine) (site : ℕ) where
 pub site_fits : (g : Setting) (disks : List KeptDisk) (d : Disks) (s : ℕ) → AreRecordsOf g disks d → Each (Fits g.clicks) (all_kept disks) → Mem (Offset s) (map (λ o. o.name) disks) → Mem (Retry s) (map (λ o. o.name) disks)
     → AreKeptPlaces g (d.dispatchers s)
 site_fits g disks d s says all here there =
-    let o = at_name disks (Offset s) here in
-    let r = at_name disks (Retry s) there in
+    let o = at_name (λ (d : KeptDisk). d.name) disks (Offset s) here in
+    let r = at_name (λ (d : KeptDisk). d.name) disks (Retry s) there in
     let offset : o.0.kept ≡ OffsetIs (d.dispatchers s).offset = subst (λ (n : DiskName). Says g d n o.0.kept) o.2 (each_mem (λ (x : KeptDisk). Says g d x.name x.kept) o.0 disks says o.1) in
     let pending : r.0.kept ≡ PendingAre (d.dispatchers s).pending = subst (λ (n : DiskName). Says g d n r.0.kept) r.2 (each_mem (λ (x : KeptDisk). Says g d x.name x.kept) r.0 disks says r.1) in
     let one = subst (λ (n : DiskName). Each (Fits g.clicks) (places_at n o.0.kept)) o.2 (fit_at g.clicks disks o.0 all o.1) in

@@ -3,13 +3,12 @@ use Rattle.std.proofs.Common.{◌≡◌, ◌≢◌, ◌⊎◌, inl, inr, ℕ, Li
 use Rattle.std.specs.Prelude.{flat_map}
 use Rattle.site_store.proofs.Words.{Each, EachPair, Mem, DiskName, IsKeptIn, IsJournalOf, WereJournals, Kept, KeptDisk, OpenView, KeepsAs, IsOfKind, IsKept, kept_by, kept_all}
 use Rattle.outside.specs.declared.store.DiskName.TheVariants as name
-use Rattle.site_store.proofs.Lending.{each_mem}
-use Rattle.site_store.proofs.SameNames.{same_or_not}
+use Rattle.site_store.proofs.Lending.{each_mem, same_or_not}
 
--- the disk of a name that is among theirs
-pub at_name : (disks : List KeptDisk) (n : DiskName) → Mem n (map (λ d. d.name) disks) → (d : KeptDisk) × Mem d disks × (d.name ≡ n)
-at_name [] n m = absurd m
-at_name (d ∷ ds) n h = grind (arith, at_name ds n)
+-- what has a name, where that is among theirs
+pub at_name : {A B : Type 0} (f : A → B) (xs : List A) (n : B) → Mem n (map f xs) → (x : A) × Mem x xs × (f x ≡ n)
+at_name f [] n m = absurd m
+at_name f (x ∷ xs) n h = grind (arith, at_name f xs n)
 
 -- there is one of this name or none
 pub find_name : (disks : List KeptDisk) (n : DiskName) → ((d : KeptDisk) × Mem d disks × (d.name ≡ n)) ⊎ ((d : KeptDisk) → Mem d disks → d.name ≡ n → ⊥)
@@ -22,14 +21,14 @@ find_name (d ∷ ds) n = elim (same_or_not d.name n) [
   ]
 ]
 
-pub named_mem : (disks : List KeptDisk) (d : KeptDisk) → Mem d disks → Mem d.name (map (λ d. d.name) disks)
-named_mem [] d m = absurd m
-named_mem (o ∷ os) d h = grind (arith, named_mem os d)
+pub named_mem : {A B : Type 0} (f : A → B) (xs : List A) (x : A) → Mem x xs → Mem (f x) (map f xs)
+named_mem f [] x m = absurd m
+named_mem f (y ∷ ys) x h = grind (arith, named_mem f ys x)
 
 -- where names differ, one name is one disk's
-pub one_named : (disks : List KeptDisk) → EachPair (λ one other. one ≢ other) (map (λ d. d.name) disks) → (a b : KeptDisk) → Mem a disks → Mem b disks → a.name ≡ b.name → a ≡ b
-one_named [] apart a b m k e = absurd m
-one_named (o ∷ os) apart a b h k e = grind (arith, each_mem, named_mem, one_named os apart.1 a b)
+pub one_named : {A B : Type 0} (f : A → B) (xs : List A) → EachPair (λ one other. one ≢ other) (map f xs) → (a b : A) → Mem a xs → Mem b xs → f a ≡ f b → a ≡ b
+one_named f [] apart a b m k e = absurd m
+one_named f (x ∷ xs) apart a b h k e = grind (arith, each_mem, named_mem, one_named f xs apart.1 a b)
 
 -- ---- what it keeps is a journal of its kind
 

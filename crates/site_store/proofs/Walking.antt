@@ -28,7 +28,7 @@ first_next {A} R i xs ys d new so lt is =
     let here : R (get_or xs i d) new = subst (λ (x : A). R x new) (first_at R i xs ys d so) is in
     subst (λ n. FirstWith R n xs (set ys i new)) (sym (add-one i)) (first_suc R i xs ys d new so lt here)
 
-each_same : {A : Type 0} (R : A → A → Type 0) → ((x : A) → R x x) → (xs : List A) → EachWith R xs xs
+pub each_same : {A : Type 0} (R : A → A → Type 0) → ((x : A) → R x x) → (xs : List A) → EachWith R xs xs
 each_same R same [] = tt
 each_same R same (x ∷ xs) = (same x, each_same R same xs)
 

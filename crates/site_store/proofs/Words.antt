@@ -1,6 +1,5 @@
 -- The words of this crate's proofs: what they take from its definitions and from the crates below, under one name each.
 pub use Rattle.dispatch_node.specs.Places.{AreKeptPlaces, IsLogOf}
-pub use Rattle.epoch_journal.specs.Epochs.{epoch_of}
 pub use Rattle.gate_journal.proofs.Growth.{continues_opened, continues_same, continues_through}
 pub use Rattle.gate_journal.specs.Fold.{read_as}
 pub use Rattle.gate_journal.specs.Gate.{StandsFor, gate_rule}
@@ -8,8 +7,7 @@ pub use Rattle.gate_journal.specs.Growth.{Continues}
 pub use Rattle.gate_journal.specs.Images.{GoesOn, IsKeptIn, StaysAs}
 pub use Rattle.gate_journal.specs.Opening.{IsOpened}
 pub use Rattle.gate_journal.specs.declared.reading.JournalFault.{JournalFault}
-pub use Rattle.gate_journal.specs.declared.reading.JournalFault.TheVariants.{Damaged, Disk, Memory}
-pub use Rattle.list_words.proofs.Lists.{clash, each_append, each_more, mem_left, mem_right, mem_split, none_some, some_same}
+pub use Rattle.list_words.proofs.Lists.{clash, each_append, each_from, each_more, mem_left, mem_right, mem_split, none_some}
 pub use Rattle.list_words.specs.Lists.{Each, EachPair, Mem, has}
 pub use Rattle.log_records.proofs.LineOrder.{at_mem, at_own, end_after, within_end}
 pub use Rattle.log_records.proofs.Places.{lines_follow, lines_stand}
@@ -25,11 +23,10 @@ pub use Rattle.output_log.specs.Pairs.{Keeps as KeepsPairs}
 pub use Rattle.outside.specs.Disk.{Within}
 pub use Rattle.outside.specs.Faults.{Rose, added}
 pub use Rattle.outside.specs.declared.store.DiskName.{DiskName}
-pub use Rattle.outside.specs.declared.store.DiskName.TheVariants.{Epoch, Offset, Output, Replica, Retry, Server}
+pub use Rattle.outside.specs.declared.store.DiskName.TheVariants.{Offset, Retry}
 pub use Rattle.packet_codec.specs.Notes.{IsNote, note}
 pub use Rattle.paxos_acceptor.specs.Cells.{note_view}
 pub use Rattle.paxos_acceptor.specs.declared.notes.ReplicaNote.{ReplicaNote}
-pub use Rattle.paxos_defs.specs.Notes.Note.{Accepted, Promised}
 pub use Rattle.photon_model.specs.Journals.{journals, values_from}
 pub use Rattle.photon_model.specs.Runs.{Disks}
 pub use Rattle.photon_model.specs.Stores.{TopologyComesFirst}
@@ -54,26 +51,24 @@ pub use Rattle.site_store.specs.Kinds.{damaged_by, joiners_kept}
 pub use Rattle.site_store.specs.Leaving.{IsAsked, IsOut, StayOrAsked}
 pub use Rattle.site_store.specs.Lent.{IsLent, Lacks, Lent, MayBeLeft}
 pub use Rattle.site_store.specs.LentDisks.{all_lent, lent_of}
-pub use Rattle.site_store.specs.Misfits.{IsFit, IsFitFor, IsMisfit, is_full_note, limit_at, limit_in, or_else}
+pub use Rattle.site_store.specs.Misfits.{IsFit, IsFitFor, IsMisfit, limit_at, limit_in, or_else}
 pub use Rattle.site_store.specs.Opening.{IsDamagedIn, IsRefusedBy, IsUnopened, told_by}
 pub use Rattle.site_store.specs.Orders.{left_at}
 pub use Rattle.site_store.specs.ReadBack.{AreAmongImages, AreReadFrom, EachWith, IsAnImage, IsOnlyRead, IsReadAs, IsToldBy, OneWith, is_output, is_replica, notes_in, outputs, pairs_in, replicas}
 pub use Rattle.site_store.specs.Reading.{IsOfValues, IsRead, notes_at, pairs_at}
-pub use Rattle.site_store.specs.Records.{AllKept, AreKept, AreRecordsOf, EpochIs, IsKept, IsOfKind, KeepsAs, Kept, KeptDisk, KeptValues, NotesAre, OffsetIs, OpenView, PairsAre, PendingAre, Says, TopologyIs, kept_all, kept_by, lent_all, lent_by, topology_lent, values_of}
+pub use Rattle.site_store.specs.Records.{AllKept, AreKept, AreRecordsOf, EpochIs, IsKept, IsOfKind, KeepsAs, Kept, KeptDisk, KeptValues, NotesAre, OffsetIs, OpenView, PairsAre, PendingAre, Says, kept_all, kept_by, lent_all, lent_by, topology_lent, values_of}
 pub use Rattle.site_store.specs.Refusals.{IsFirst, IsFirstDisk, IsJournalOf, WereJournals, other_names, site_names}
 pub use Rattle.site_store.specs.Rows.{one_line}
 pub use Rattle.site_store.specs.Telling.{KeepsNothing, Tells}
 pub use Rattle.site_store.specs.Written.{AllKeep, IsUnwritten, IsWritten, StaysOrKeeps}
 pub use Rattle.site_store.specs.declared.lent.disk.LentDisk.{LentDisk}
 pub use Rattle.site_store.specs.declared.lent.reading.ReadAs.{ReadAs}
-pub use Rattle.site_store.specs.declared.lent.reading.ReadAs.TheVariants.{Neither, Notes, Pairs}
 pub use Rattle.site_store.specs.declared.reading.kept.KeptStore.{KeptStore}
 pub use Rattle.std.proofs.Math.ListN.{get_or-append, set}
-pub use Rattle.std.proofs.lemmas.Bool.{cases_lt, eq-eqb, eqb-true, le-ltb, lt-ltb, or_cases, or_left, or_right}
-pub use Rattle.std.proofs.lemmas.Bool.Decides.{eqb_tells}
+pub use Rattle.std.proofs.lemmas.Bool.{cases_lt, eq-eqb, eqb-true, or_cases, or_left, or_right}
 pub use Rattle.std.proofs.lemmas.List.{drop_more, get_or-append-add, get_or-drop, get_or-take, get_or_past, length-append, length-take, map-append, take-append-drop, take-append-le, take_more}
 pub use Rattle.std.proofs.lemmas.List.Elements.{All-cons, All-nil, filter-append}
-pub use Rattle.std.specs.List.{AllByRecursion, filter, list_any}
+pub use Rattle.std.specs.List.{AllByRecursion, filter}
 pub use Rattle.std.specs.Vec.Iter.{into_iter_items, into_iter_len}
 pub use Rattle.topology_journal.specs.Topologies.{IsTopology, Keeps, topologies}
 pub use Rattle.topology_journal.specs.declared.topology.Topology.{Topology}

@@ -2,10 +2,10 @@
 use Rattle.std.specs.Prelude.{◌≡◌, ℕ, List, [], ◌∷◌, ◌++◌, map, Option, None, Some, ⊤}
 use Rattle.list_words.specs.Lists.{Each}
 use Rattle.outside.specs.declared.store.DiskName.{DiskName}
-use Rattle.outside.specs.declared.store.DiskName.TheVariants.{Topology, Offset, Retry, Server, Replica, Epoch, Output}
+use Rattle.outside.specs.declared.store.DiskName.TheVariants.{Offset, Retry}
 use Rattle.log_records.specs.Lines.{ClickLine, at, IsBoundary}
 use Rattle.site_store.specs.Floors.{IsFloorOf}
-use Rattle.site_store.specs.Records.{Kept, TopologyIs, OffsetIs, PendingAre, EpochIs, NotesAre, PairsAre, KeptDisk}
+use Rattle.site_store.specs.Records.{Kept, OffsetIs, PendingAre, KeptDisk}
 use Rattle.run_fault.specs.declared.fault.Misplaced.{Misplaced}
 
 -- a whole line starts at p
@@ -16,11 +16,7 @@ IsStart ls p = (l : ClickLine) × (at ls p ≡ Some l)
 abbrev pub FitsOn : List ClickLine → DiskName → ℕ → Type 0
 FitsOn ls (Offset site) p = IsBoundary ls p
 FitsOn ls (Retry site) p = IsStart ls p
-FitsOn ls Topology p = ⊤
-FitsOn ls (Server site) p = ⊤
-FitsOn ls (Replica replica) p = ⊤
-FitsOn ls (Epoch site joiner) p = ⊤
-FitsOn ls (Output site joiner) p = ⊤
+FitsOn ls _ p = ⊤
 
 -- a place that a disk keeps
 pub record KeptPlace : Type 0 where
@@ -36,12 +32,9 @@ on_disk disk places = map (λ p. record { disk = disk; kept = p }) places
 
 -- the places that a disk keeps
 abbrev pub places_at : DiskName → Kept → List KeptPlace
-places_at disk (TopologyIs topology) = []
 places_at disk (OffsetIs offset) = on_disk disk (offset ∷ [])
 places_at disk (PendingAre positions) = on_disk disk positions
-places_at disk (EpochIs epoch) = []
-places_at disk (NotesAre notes) = []
-places_at disk (PairsAre pairs) = []
+places_at disk _ = []
 
 -- those of all disks, in order
 abbrev pub all_kept : List KeptDisk → List KeptPlace

@@ -7,7 +7,7 @@ use Rattle.outside.specs.declared.store.DiskName.{DiskName}
 use Rattle.paxos_acceptor.specs.declared.notes.ReplicaNote.{ReplicaNote}
 use Rattle.paxos_acceptor.specs.declared.notes.ReplicaNote.TheVariants.{Promised, Accepted}
 use Rattle.topology_journal.specs.declared.topology.Topology.{Topology}
-use Rattle.site_store.specs.Records.{Kept, TopologyIs, OffsetIs, PendingAre, EpochIs, NotesAre, PairsAre, KeptDisk}
+use Rattle.site_store.specs.Records.{Kept, EpochIs, NotesAre, KeptDisk}
 use Rattle.run_fault.specs.declared.fault.Mismatch.TheVariants as mismatch
 use Rattle.run_fault.specs.declared.fault.RunFault.{RunFault}
 use Rattle.run_fault.specs.declared.fault.RunFault.TheVariants as fault
@@ -34,12 +34,9 @@ is_full_note (Accepted shard slot b v) = (slot == LAST_SLOT) || (b.round == LAST
 
 -- a disk whose epoch is the last one, or that has such a note
 abbrev pub limit_at : DiskName → Kept → Option RunFault
-limit_at name (TopologyIs topology) = None
-limit_at name (OffsetIs offset) = None
-limit_at name (PendingAre positions) = None
 limit_at name (EpochIs epoch) = if epoch == LAST_EPOCH then Some (fault.Limit name LAST_EPOCH) else None
 limit_at name (NotesAre notes) = if list_any is_full_note notes then Some (fault.Limit name LAST_SLOT) else None
-limit_at name (PairsAre pairs) = None
+limit_at name _ = None
 
 abbrev pub or_else : Option RunFault → Option RunFault → Option RunFault
 or_else None later = later

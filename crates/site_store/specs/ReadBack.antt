@@ -81,17 +81,14 @@ IsReadAs tells seen d Neither = (is_replica d.name ≡ false) × (is_output d.na
 
 -- what was read, if anything was, is one of the images of the disk
 abbrev pub IsAnImage : {D : Type 0} → Bool → (D → List ℕ) → (D → List ℕ → Type 0) → LentDisk D → ReadAs → Type 0
-IsAnImage tells seen image d (Notes notes) = IsTrue tells → image d.disk (seen d.disk)
-IsAnImage tells seen image d (Pairs pairs) = IsTrue tells → image d.disk (seen d.disk)
 IsAnImage tells seen image d Neither = Unit {0}
+IsAnImage tells seen image d _ = IsTrue tells → image d.disk (seen d.disk)
 
 -- the list of notes that was read, if one was, and the list of pairs
 abbrev pub notes_in : ReadAs → List (List ReplicaNote)
 notes_in (Notes notes) = notes ∷ []
-notes_in (Pairs pairs) = []
-notes_in Neither = []
+notes_in _ = []
 
 abbrev pub pairs_in : ReadAs → List (List PairRec)
-pairs_in (Notes notes) = []
 pairs_in (Pairs pairs) = pairs ∷ []
-pairs_in Neither = []
+pairs_in _ = []

@@ -3,26 +3,18 @@ use Rattle.std.specs.Prelude.{◌≡◌, ℕ, List, [], ◌∷◌, flat_map, Boo
 use Rattle.outside.specs.declared.store.DiskName.{DiskName}
 use Rattle.turn_defs.specs.declared.pair.PairRec.{PairRec}
 use Rattle.paxos_acceptor.specs.declared.notes.ReplicaNote.{ReplicaNote}
-use Rattle.site_store.specs.Records.{Kept, TopologyIs, OffsetIs, PendingAre, EpochIs, NotesAre, PairsAre, KeptValues, AreKept}
+use Rattle.site_store.specs.Records.{Kept, NotesAre, PairsAre, KeptValues, AreKept}
 use Rattle.site_store.specs.Causes.{ArePassed}
 use Rattle.site_store.specs.declared.reading.kept.KeptStore.{KeptStore}
 
 -- the notes that a disk keeps, and the pairs
 abbrev pub notes_at : Kept → List (List ReplicaNote)
-notes_at (TopologyIs topology) = []
-notes_at (OffsetIs offset) = []
-notes_at (PendingAre positions) = []
-notes_at (EpochIs epoch) = []
 notes_at (NotesAre notes) = notes ∷ []
-notes_at (PairsAre pairs) = []
+notes_at _ = []
 
 abbrev pub pairs_at : Kept → List (List PairRec)
-pairs_at (TopologyIs topology) = []
-pairs_at (OffsetIs offset) = []
-pairs_at (PendingAre positions) = []
-pairs_at (EpochIs epoch) = []
-pairs_at (NotesAre notes) = []
 pairs_at (PairsAre pairs) = pairs ∷ []
+pairs_at _ = []
 
 -- the topology, and all disks' notes and pairs, in order
 pub record IsOfValues (v : KeptValues) (k : KeptStore) : Type 0 where

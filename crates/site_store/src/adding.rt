@@ -1,35 +1,43 @@
 // A row behind those of the table that a store keeps.
-ghost use Rattle.std.specs.Prelude.{◌≡◌, ◌≤◌, IsTrue, IfOk, IfErr, Ok};
+ghost use Rattle.std.specs.Prelude.{◌≡◌, ◌≤◌, [], ◌∷◌, IsTrue, IfOk, IfErr, Ok};
+ghost use Rattle.std.specs.List.{fold};
 ghost use Rattle.outside.specs.Faults.{Rose};
 ghost use Rattle.time_shards.specs.declared.TheConstants.{MAX_SHARDS};
 ghost use Rattle.topology_journal.specs.Topologies.{MayCome};
-ghost use Rattle.verify_pass.specs.TooSoon.{too_soon_for};
-ghost use Rattle.site_store.specs.Records.{kept_all, values_of};
+ghost use Rattle.verify_pass.specs.TooSoon.{taken, too_soon_for};
+ghost use Rattle.site_store.specs.Records.{kept_all, kept_by, values_of};
 ghost use Rattle.site_store.specs.Adding.{IsAdded, IsAnswer, IsRowCause, IsUnadded, LeavesBy, accepted, unfit_by};
 
 pub mod rows;
 
-use crate::disks::{OpenDisk, OpenStore};
-use crate::reading::notes_of;
+use crate::disks::{AnyJournal, OpenDisk, OpenStore};
 use crate::{first_limit, give_back, open_disks, write_topology};
 use outside::{Disk, Store};
 use run_fault::{RunFault, Unfit};
 use site_laws::stores::{fits, once, read, row_added, stays};
-use std::alloc::{AllocError, Global};
+use std::alloc::Global;
 use time_shards::{AddFault, ShardRow, Table};
 use topology_journal::Topology;
-use verify_pass::{TooSoon, too_soon};
+use verify_pass::{Latest, TooSoon};
+
+// With what this disk's notes accept.
+fn take_notes<D: Disk>(latest: &mut Latest, disk: &OpenDisk<D>, start: u64)
+    ensures { latest.new ≡ fold (taken start) latest.old (accepted (kept_by disk.now ∷ [])) }
+{
+    if let AnyJournal::Votes(journal) = &disk.journal {
+        latest.take_all(journal.value().notes(), start);
+    }
+}
 
 // What any replica accepted and forbids this start, if anything does.
-fn forbidding<D: Disk>(
-    alloc: Global,
-    disks: &[OpenDisk<D>],
-    start: u64,
-) -> Result<Option<TooSoon>, AllocError>
-    ensures { IfOk result (λ soon. soon ≡ too_soon_for (accepted (kept_all disks.now)) start) }
+fn forbidding<D: Disk>(disks: &[OpenDisk<D>], start: u64) -> Option<TooSoon>
+    ensures { result ≡ too_soon_for (accepted (kept_all disks.now)) start }
 {
-    let journals = notes_of(alloc, disks)?;
-    Ok(too_soon(&journals, start))
+    let mut latest = Latest::new();
+    for disk in disks {
+        take_notes(&mut latest, disk, start);
+    }
+    latest.forbids(start)
 }
 
 fn told(soon: TooSoon) -> Unfit
@@ -42,11 +50,8 @@ fn told(soon: TooSoon) -> Unfit
 }
 
 // The kept topology with this row, or the first reason against it.
-fn longer<D: Disk>(
-    alloc: Global,
-    opened: &OpenStore<D>,
-    row: ShardRow,
-) -> Result<Topology, RunFault>
+#[tactic(auto, using(crate::proofs::Added::answers, crate::proofs::Added::limit_unadded))]
+fn longer<D: Disk>(opened: &OpenStore<D>, row: ShardRow) -> Result<Topology, RunFault>
     requires some { 1 ≤ row.count }
     requires few { row.count ≤ MAX_SHARDS }
     ensures longer { IfOk result (λ t. IsAnswer (values_of opened.now.topology.value.kept opened.now.disks.items) row (Ok t)) }
@@ -69,13 +74,12 @@ fn longer<D: Disk>(
             }));
         }
     };
-    match forbidding(alloc, &opened.disks, row.start) {
-        Ok(None) => Ok(Topology {
+    match forbidding(&opened.disks, row.start) {
+        None => Ok(Topology {
             joiners: kept.joiners,
             table,
         }),
-        Ok(Some(soon)) => Err(RunFault::Reshard(told(soon))),
-        Err(_) => Err(RunFault::Memory),
+        Some(soon) => Err(RunFault::Reshard(told(soon))),
     }
 }
 
@@ -85,6 +89,7 @@ fn longer<D: Disk>(
 /// record may not be written: then the topology's disk has its old records, or those and the new one.
 ///
 /// Each file is read once. Time and memory are linear in the files.
+#[tactic(auto, using(crate::proofs::Added::unadded_cause, crate::proofs::Causes::unopened_cause, crate::proofs::Causes::unwritten_cause))]
 pub fn add_row<S: Store>(
     alloc: Global,
     store: &mut S,
@@ -109,7 +114,7 @@ pub fn add_row<S: Store>(
         Ok(open) => open,
         Err(fault) => return Err(fault),
     };
-    let asked = match longer(alloc, &open, row) {
+    let asked = match longer(&open, row) {
         Ok(asked) => asked,
         Err(fault) => {
             give_back(store, open);

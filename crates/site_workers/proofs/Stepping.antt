@@ -89,7 +89,7 @@ any_more [] e never = ap (λ b. b || false) never
 any_more (x ∷ xs) e never = ap (λ b. is_stop x || b) (any_more xs e never)
 
 pub in_turn : (old new : List Entry) (e : Entry) → new ≡ old ++ e ∷ [] → is_begin e ≡ true → is_in_turn new ≡ true
-in_turn old new e is begun = ap is_in_turn is ∙ fold_push (λ before x. is_begin x) false old e ∙ begun
+in_turn old new e is begun = ap is_in_turn is ∙ fold_push (λ _ x. is_begin x) false old e ∙ begun
 
 -- what a call added with node n's seat
 pub record Added (n : ℕ) (v w : Sight) (e : Entry) : Type 0 where

@@ -30,9 +30,8 @@ pub record IsCaused {N : Type 0} (disk_faults : N → NodeDisk → ℕ) (log_fau
 
 -- the node went down within its turn
 abbrev pub is_stop : Entry → Bool
-is_stop (Begin node input) = false
-is_stop (End node noted packets kept) = false
 is_stop (Stop node landed) = true
+is_stop _ = false
 
 -- how many of the entries are such
 abbrev pub stop_count : List Entry → ℕ
@@ -41,12 +40,11 @@ stop_count entries = length (filter is_stop entries)
 -- it begins a turn
 abbrev pub is_begin : Entry → Bool
 is_begin (Begin node input) = true
-is_begin (End node noted packets kept) = false
-is_begin (Stop node landed) = false
+is_begin _ = false
 
 -- whether the last of the entries begins a turn
 abbrev pub is_in_turn : List Entry → Bool
-is_in_turn entries = fold (λ before e. is_begin e) false entries
+is_in_turn entries = fold (λ _ e. is_begin e) false entries
 
 -- A node whose entries have a stop has met a fault of its disks. It has at most eight, and eight where its work ended as stopped; where it
 -- ended otherwise, and not for want of memory, a turn is open. One whose work goes on waits for no restart.

@@ -3,7 +3,6 @@ ghost use Rattle.std.specs.Prelude.{◌≡◌, ◌<◌, true, false, nat_lt, if�
 ghost use Rattle.air_bus.specs.declared.entry.Phase.TheVariants.{Idle};
 ghost use Rattle.air_bus.specs.History.{phase};
 ghost use Rattle.bus_seat.specs.Seats.{TakesPart};
-ghost use Rattle.site_node.specs.declared.kind.NodeFault.TheVariants as node_fault;
 ghost use Rattle.site_workers.specs.Works.{IsIdle, IsCaused, HasMet, stop_count};
 
 use air_bus::Input;

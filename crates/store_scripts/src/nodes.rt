@@ -140,7 +140,7 @@ fn turn(alloc: Global, node: &mut Node, input: &Input) -> Result<String, Stop> {
 }
 
 fn packet(alloc: Global, node: &mut Node, from: u16, bytes: &[u8]) -> Result<String, Stop> {
-    let bytes = Payload::new(bytes.to_vec(alloc)?)?;
+    let bytes = Payload::from_slice(alloc, bytes)?;
     turn(alloc, node, &Input::Packet { from, bytes })
 }
 

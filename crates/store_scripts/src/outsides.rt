@@ -52,7 +52,7 @@ pub struct Sources {
 impl Sources {
     pub fn new(alloc: Global) -> Sources {
         Sources {
-            source: MemSource::new(Vec::new(alloc)),
+            source: MemSource::new(Vec::new(alloc), Vec::new(alloc)),
             log: None,
         }
     }
@@ -90,7 +90,7 @@ impl Part for Sources {
                     bytes: text,
                     failing: words.numbers(alloc)?,
                 };
-                self.source = MemSource::new(vec![in alloc; file]?);
+                self.source = MemSource::new(vec![in alloc; file]?, Vec::new(alloc));
                 Ok(format!(in alloc; "one file")?)
             }
             "open" => self.open(alloc, words.word()?),

@@ -1,37 +1,23 @@
 -- Whether rows are a table.
-use Rattle.std.proofs.Common.{◌≡◌, Bool, true, List, [], ◌∷◌, length, refl, arith, ◌<◌, ◌≤◌}
-use Rattle.std.specs.Prelude.{◌&&◌, ◌==◌, nat_lt, nat_le}
-use Rattle.std.proofs.lemmas.Bool.{and_parts, le-leb}
+use Rattle.std.proofs.Common.{◌≡◌, true, List, [], ◌∷◌, length, refl, arith, ◌≤◌}
+use Rattle.std.specs.Prelude.{◌&&◌, ◌==◌, nat_le}
+use Rattle.std.proofs.lemmas.Bool.{and_parts}
 use Rattle.std.proofs.lemmas.Bool.Decides.{nat_tests}
 use Rattle.list_words.specs.Lists.{Each}
 use Rattle.time_shards.specs.declared.TheConstants.{MAX_ROWS}
 use Rattle.time_shards.specs.declared.ShardRow.{ShardRow}
 use Rattle.time_shards.specs.Shards.{IsRow, Rises, IsTable, is_row, go_on, is_table}
 
-both : (a b : Bool) → a ≡ true → b ≡ true → (a && b) ≡ true
-both a b p q = rw (p, q) refl
-
 row_so : (row : ShardRow) → is_row row ≡ true → IsRow row
 row_so row e = record { start = grind (arith, nat_tests); some = grind (arith, nat_tests); few = grind (arith, nat_tests) }
 
-row_is : (row : ShardRow) → IsRow row → is_row row ≡ true
-row_is row r = let a = r.start in let b = r.some in let c = r.few in grind (arith, nat_tests)
-
 rows_so : (row : ShardRow) (rows : List ShardRow) → go_on row.start rows ≡ true → Each IsRow rows × Rises (row ∷ rows)
 rows_so row [] e = (tt, tt)
-rows_so row (r ∷ rs) e =
-    let first = and_parts (nat_lt row.start r.start) (is_row r && go_on r.start rs) e in
-    let second = and_parts (is_row r) (go_on r.start rs) first.1 in
-    let rest = rows_so r rs second.1 in
-    let above : row.start < r.start = grind (arith, nat_tests, first.0) in
-    ((row_so r second.0, rest.0), (above, rest.1))
+rows_so row (r ∷ rs) e = grind (arith, and_parts, nat_tests, rows_so r rs)
 
 rows_are : (row : ShardRow) (rows : List ShardRow) → Each IsRow rows → Rises (row ∷ rows) → go_on row.start rows ≡ true
 rows_are row [] each rises = refl
-rows_are row (r ∷ rs) each rises =
-    let lt = rises.0 in
-    let above : nat_lt row.start r.start ≡ true = grind (arith, nat_tests) in
-    both (nat_lt row.start r.start) (is_row r && go_on r.start rs) above (both (is_row r) (go_on r.start rs) (row_is r each.0) (rows_are r rs each.1 rises.1))
+rows_are row (r ∷ rs) each rises = grind (arith, nat_tests, rows_are r rs each.1 rises.1)
 
 pub table_so : (rows : List ShardRow) → is_table rows ≡ true → IsTable rows
 table_so [] e = absurd (cc)
@@ -46,9 +32,4 @@ table_so (r ∷ rs) e =
 
 pub table_is : (rows : List ShardRow) → IsTable rows → is_table rows ≡ true
 table_is [] t = absurd (omega (arith, t.some))
-table_is (r ∷ rs) t =
-    let zero = t.begins.zero in
-    let is_zero : (r.start == 0) ≡ true = grind (arith, nat_tests) in
-    both (r.start == 0) (is_row r && (go_on r.start rs && nat_le (length (r ∷ rs)) MAX_ROWS)) is_zero
-    (both (is_row r) (go_on r.start rs && nat_le (length (r ∷ rs)) MAX_ROWS) (row_is r t.begins.each.0)
-    (both (go_on r.start rs) (nat_le (length (r ∷ rs)) MAX_ROWS) (rows_are r rs t.begins.each.1 t.begins.rising) (le-leb (length (r ∷ rs)) MAX_ROWS t.begins.few)))
+table_is (r ∷ rs) t = grind (arith, nat_tests, rows_are)

@@ -12,7 +12,7 @@ use Rattle.time_shards.specs.declared.TheConstants.{MAX_ROWS}
 use Rattle.time_shards.specs.declared.ShardRow.{ShardRow}
 use Rattle.time_shards.specs.Shards.{IsRow, BeginsTable, IsTable}
 use Rattle.time_shards.specs.Text.{comma, row_text, table_text, before, HasFirst, IsFirstBad}
-use Rattle.time_shards.proofs.Tables.{begins_front, table_of}
+use Rattle.time_shards.proofs.Tables.{table_of}
 
 -- the text of a row has no comma
 pub row_lacks : (row : ShardRow) → IsRow row → Lacks comma (row_text row)
@@ -50,9 +50,7 @@ table_push (x ∷ z ∷ xs) y = ap (λ (t : List ℕ). row_text x ++ comma ∷ t
 -- a table's text that begins with good rows has them, and more rows, which spell the rest
 goes_on : (rows table : List ShardRow) (rest : List ℕ) → 1 ≤ length table → Each IsRow rows → Each IsRow table → before rows ++ rest ≡ table_text table
     → (row : ShardRow) × (more : List ShardRow) × (table ≡ rows ++ row ∷ more) × (rest ≡ table_text (row ∷ more))
-goes_on [] [] rest some h k e = absurd (omega arith)
 goes_on [] (t ∷ ts) rest some h k e = (t, ts, refl, e)
-goes_on (r ∷ rs) [] rest some h k e = absurd (omega arith)
 goes_on (r ∷ rs) (t ∷ []) rest some h k e =
     absurd (lacks_none comma (row_text r) (before rs ++ rest) (subst (Lacks comma) (sym e ∙ append_assoc (row_text r) (comma ∷ before rs) rest) (row_lacks t k.0)))
 goes_on (r ∷ rs) (t ∷ u ∷ ts) rest some h k e =
@@ -60,22 +58,14 @@ goes_on (r ∷ rs) (t ∷ u ∷ ts) rest some h k e =
     let first : r ≡ t = row_same r t h.0 k.0 parts.0 in
     let on = goes_on rs (u ∷ ts) rest (omega arith) h.1 k.1 parts.1 in
     (on.0, on.1, (let tail : u ∷ ts ≡ rs ++ on.0 ∷ on.1 = on.2 in cc), on.3)
-
-has_first : (text : List ℕ) (row : ShardRow) (more : List ShardRow) → text ≡ table_text (row ∷ more) → HasFirst text row
-has_first text row [] e = inl e
-has_first text row (next ∷ more) e = inr (table_text (next ∷ more), e)
+goes_on _ [] rest some h k e = absurd (omega arith)
 
 -- a table's text has no bad row
 pub none_bad : (text : List ℕ) (n : ℕ) (table : List ShardRow) → IsFirstBad text n → IsTable table → text ≡ table_text table → ⊥
-none_bad text n table b t e =
-    let on = goes_on b.good table b.rest t.some b.begins.each t.begins.each (sym b.spelled ∙ e) in
-    b.bad on.0 (has_first b.rest on.0 on.1 on.3)
-    (begins_front (b.good ++ on.0 ∷ []) on.1 (subst BeginsTable (on.2 ∙ sym (append_assoc b.good (on.0 ∷ []) on.1)) t.begins))
+none_bad text n table b t e = grind (arith, goes_on)
 
 -- no two tables have one text
 pub table_same : (xs ys : List ShardRow) → 1 ≤ length xs → 1 ≤ length ys → Each IsRow xs → Each IsRow ys → table_text xs ≡ table_text ys → xs ≡ ys
-table_same [] ys p q h k e = absurd (omega arith)
-table_same (x ∷ xs) [] p q h k e = absurd (omega arith)
 table_same (x ∷ []) (y ∷ []) p q h k e = let same : x ≡ y = row_same x y h.0 k.0 e in cc
 table_same (x ∷ []) (y ∷ z ∷ ys) p q h k e = absurd (lacks_none comma (row_text y) (table_text (z ∷ ys)) (subst (Lacks comma) e (row_lacks x h.0)))
 table_same (x ∷ z ∷ xs) (y ∷ []) p q h k e = absurd (lacks_none comma (row_text x) (table_text (z ∷ xs)) (subst (Lacks comma) (sym e) (row_lacks y k.0)))
@@ -84,6 +74,7 @@ table_same (x ∷ w ∷ xs) (y ∷ z ∷ ys) p q h k e =
     let first : x ≡ y = row_same x y h.0 k.0 parts.0 in
     let tail : w ∷ xs ≡ z ∷ ys = table_same (w ∷ xs) (z ∷ ys) (omega arith) (omega arith) h.1 k.1 parts.1 in
     cc
+table_same _ _ p q h k e = absurd (omega arith)
 
 -- the parts of a row's text, joined
 pub row_joins : (text a b : List ℕ) (start count : ℕ) → text ≡ a ++ colon ∷ b → a ≡ decimal start → b ≡ decimal count → text ≡ row_text (record { start = start; count = count })
@@ -106,10 +97,6 @@ spelled_more text rest behind good row e f =
     ∙ ap (λ (t : List ℕ). before good ++ t) (sym (append_assoc (row_text row) (comma ∷ []) behind))
     ∙ sym (append_assoc (before good) (row_text row ++ comma ∷ []) behind)
     ∙ ap (λ (t : List ℕ). t ++ behind) (sym (before_push good row))
-
--- the last good row
-pub spelled_all : (text rest : List ℕ) (good : List ShardRow) (row : ShardRow) → text ≡ before good ++ rest → rest ≡ row_text row → text ≡ table_text (good ++ row ∷ [])
-spelled_all text rest good row e f = e ∙ ap (λ (t : List ℕ). before good ++ t) f ∙ sym (table_push good row)
 
 -- what is spelled by one table isn't spelled by another
 pub only_table : (text : List ℕ) (one other : List ShardRow) → IsTable one → IsTable other → text ≡ table_text one → text ≡ table_text other → one ≡ other
@@ -137,28 +124,16 @@ compare_good (x ∷ xs) (y ∷ ys) rest rest' h k e =
       ]
     ]
 
-not_longer : (text : List ℕ) (n : ℕ) (bad : IsFirstBad text n) (more : List ShardRow) → BeginsTable more → GoesOn bad.good more bad.rest → ⊥
-not_longer text n bad more begins on =
-    bad.bad on.0 on.3 (begins_front (bad.good ++ on.0 ∷ []) on.1 (subst BeginsTable (on.2 ∙ sym (append_assoc bad.good (on.0 ∷ []) on.1)) begins))
-
 -- a text has one first bad row at most
 pub one_bad : (text : List ℕ) (m n : ℕ) → IsFirstBad text m → IsFirstBad text n → m ≡ n
-one_bad text m n b d =
-    elim (compare_good b.good d.good b.rest d.rest b.begins.each d.begins.each (sym b.spelled ∙ d.spelled)) as (λ _. m ≡ n) [
-      | inl same ↦ sym b.place ∙ same ∙ d.place
-      | inr longer ↦ elim longer as (λ _. m ≡ n) [
-        | inl on ↦ absurd (not_longer text m b d.good d.begins on)
-        | inr on ↦ absurd (not_longer text n d b.good b.begins on)
-      ]
-    ]
+one_bad text m n b d = grind (arith, compare_good)
 
 -- ---- the rows that are read into the front of an array
 
 -- the row that doesn't go on with those is the first bad one
 pub bad_at : (text rest : List ℕ) (rows : List ShardRow) (row at : ℕ) → at ≡ row → row ≤ length rows → BeginsTable (take row rows) → text ≡ before (take row rows) ++ rest
     → ((next : ShardRow) → HasFirst rest next → BeginsTable (take at rows ++ next ∷ []) → ⊥) → IsFirstBad text row
-bad_at text rest rows row at e le b s none =
-    stops text rest (take row rows) row s (length-take-le row rows le) b (λ next f g. none next f (subst (λ k. BeginsTable (take k rows ++ next ∷ [])) (sym e) g))
+bad_at text rest rows row at e le b s none = grind (arith, length-take-le)
 
 -- one more row, and more text behind it
 pub more_at : (text rest behind : List ℕ) (rows : List ShardRow) (next : ShardRow) (row at : ℕ) → at ≡ row → row < length rows → text ≡ before (take row rows) ++ rest
@@ -174,14 +149,8 @@ more_at text rest behind rows next row at e lt s b f =
 pub last_at : (text rest : List ℕ) (rows : List ShardRow) (next : ShardRow) (row at : ℕ) → at ≡ row → row < length rows → text ≡ before (take row rows) ++ rest
     → BeginsTable (take at rows ++ next ∷ []) → rest ≡ row_text next
     → IsTable (take (at + 1) (set rows at next)) × (text ≡ table_text (take (at + 1) (set rows at next)))
-last_at text rest rows next row at e lt s b f =
-    let P : List ShardRow → Type 0 = λ all. IsTable all × (text ≡ table_text all) in
-    let same : take at rows ≡ take row rows = ap (λ k. take k rows) e in
-    let whole : take (at + 1) (set rows at next) ≡ take at rows ++ next ∷ [] = take_more_set rows at next (omega arith) in
-    subst P (sym whole) (table_of (take at rows) next b, spelled_all text rest (take at rows) next (s ∙ ap (λ (t : List ShardRow). before t ++ rest) (sym same)) f)
+last_at text rest rows next row at e lt s b f = grind (arith, take_more_set, table_of, table_push)
 
 -- behind as many rows as a table has the text doesn't go on
 pub full_at : (text rest : List ℕ) (rows : List ShardRow) (row : ℕ) → MAX_ROWS ≤ row → row ≤ MAX_ROWS → length rows ≡ MAX_ROWS → BeginsTable (take row rows) → text ≡ before (take row rows) ++ rest → IsFirstBad text MAX_ROWS
-full_at text rest rows row low high l b s =
-    let all : length (take row rows) ≡ MAX_ROWS = omega (arith, length-take-le row rows) in
-    stops text rest (take row rows) MAX_ROWS s all b (λ next f g. full (take row rows) next all g)
+full_at text rest rows row low high l b s = grind (arith, length-take-le, stops)

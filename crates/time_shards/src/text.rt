@@ -1,5 +1,5 @@
 // Reads the rows of a table's text.
-ghost use Rattle.std.specs.Prelude.{◌≡◌, ◌≤◌, ◌^◌, ◌<◌, ◌++◌, ◌∷◌, ℕ, List, [], ◌↔◌, IfSome, IfNone, IsTrue, MatchOption, decimal};
+ghost use Rattle.std.specs.Prelude.{◌≡◌, ◌≤◌, ◌^◌, ◌<◌, ◌++◌, ◌∷◌, ℕ, [], ◌↔◌, IfSome, IfNone, MatchOption, decimal};
 ghost use Rattle.std.specs.Bool.{OnTrue, OnFalse};
 ghost use Rattle.event_id.specs.Numeral.{HasPlainFront};
 ghost use Rattle.time_shards.specs.declared.ShardRow.{ShardRow as Row};

@@ -1,17 +1,17 @@
 -- Rows, their bytes and their texts, and what is read of bytes.
-use Rattle.std.proofs.Common.{◌≡◌, ℕ, ◌*◌, ◌<◌, ◌≤◌, ◌^◌, Bool, List, [], ◌∷◌, ◌++◌, length, drop, Some, None, refl, sym, ◌∙◌, ap, subst, arith, true, false}
-use Rattle.std.specs.Prelude.{slice_index, IsTrue, ◌↔◌, ◌&&◌, ◌==◌, if◌then◌else◌}
+use Rattle.std.proofs.Common.{◌≡◌, ℕ, ◌*◌, ◌<◌, ◌≤◌, ◌^◌, Bool, List, [], ◌∷◌, ◌++◌, length, drop, Some, None, refl, sym, ◌∙◌, ap, arith, true, false}
+use Rattle.std.specs.Prelude.{slice_index, IsTrue, ◌↔◌}
 use Rattle.std.proofs.lemmas.Bool.{and_parts}
 use Rattle.std.proofs.lemmas.Bool.Decides.{nat_tests}
 use Rattle.std.proofs.lemmas.List.{append-nil}
 use Rattle.list_words.specs.Lists.{Each}
 use Rattle.time_shards.specs.declared.TheConstants.{MOST_JOINERS}
 use Rattle.time_shards.specs.declared.ShardRow.{ShardRow}
-use Rattle.time_shards.specs.Shards.{IsTable, is_table}
+use Rattle.time_shards.specs.Shards.{IsTable}
 use Rattle.time_shards.specs.Text.{comma, row_text, table_text}
 use Rattle.time_shards.proofs.Deciding.{table_so, table_is}
 use Rattle.topology_journal.specs.TopologyLaws.{long, rows_back}
-use Rattle.topology_journal.specs.Topologies.{topology_of, rows_bytes, rest_text, rows_in, has_front, read_as_table, read_in, one_more}
+use Rattle.topology_journal.specs.Topologies.{topology_of, rows_bytes, rest_text, rows_in, has_front, read_in, one_more}
 
 -- the text of a table, cut behind its first row
 pub text_cut : (first : ShardRow) (rows : List ShardRow) → table_text (first ∷ rows) ≡ row_text first ++ rest_text rows
@@ -25,34 +25,20 @@ pub record Front (bytes : List ℕ) : Type 0 where
   pub size : length (drop 4 bytes) ≡ 9 * slice_index bytes 3
 
 pub front_is : (bytes : List ℕ) → has_front bytes ≡ true → Front bytes
-front_is [] is = (cc)
-front_is (a ∷ []) is = (cc)
-front_is (a ∷ b ∷ []) is = (cc)
-front_is (a ∷ b ∷ j ∷ []) is = (cc)
-front_is (a ∷ b ∷ j ∷ n ∷ rest) is = record { some = grind (arith, nat_tests); few = grind (arith, nat_tests); size = grind (arith, nat_tests) }
+front_is (a ∷ b ∷ j ∷ n ∷ rest) is = record { some = grind arith; few = grind arith; size = grind (arith, nat_tests) }
+front_is _ is = (cc)
 
 rows_are : (n : ℕ) (bytes : List ℕ) (rows : List ShardRow) → length bytes ≡ 9 * n → bytes ≡ rows_bytes rows → Each (λ row. row.start < 2 ^ 64) rows → rows_in n bytes ≡ rows
 rows_are n bytes rows size is starts =
     let count : n ≡ length rows = omega (arith, size, ap length is, long rows) in
     ap (λ (k : ℕ). rows_in k bytes) count ∙ ap (rows_in (length rows)) is ∙ rows_back rows starts
 
--- with a front they are read as the rows behind it are, if these are a table
-front_read : (bytes : List ℕ) (rows : List ShardRow) → has_front bytes ≡ true → drop 4 bytes ≡ rows_bytes rows → Each (λ row. row.start < 2 ^ 64) rows → read_in bytes ≡ read_as_table bytes rows
-front_read bytes rows front is starts =
-    ap (λ (b : Bool). if b then read_as_table bytes (rows_in (slice_index bytes 3) (drop 4 bytes)) else None) front
-    ∙ ap (read_as_table bytes) (rows_are (slice_index bytes 3) (drop 4 bytes) rows (front_is bytes front).size is starts)
-
 pub table_read : (bytes : List ℕ) (rows : List ShardRow) → has_front bytes ≡ true → drop 4 bytes ≡ rows_bytes rows → Each (λ row. row.start < 2 ^ 64) rows → IsTable rows
     → read_in bytes ≡ Some (slice_index bytes 1, topology_of (slice_index bytes 2) rows)
-table_read bytes rows front is starts table =
-    front_read bytes rows front is starts ∙ ap (λ (b : Bool). if b then Some (slice_index bytes 1, topology_of (slice_index bytes 2) rows) else None) (table_is rows table)
+table_read bytes rows front is starts table = grind (arith, rows_are, front_is, table_is)
 
 pub no_table : (bytes : List ℕ) (rows : List ShardRow) → has_front bytes ≡ true → drop 4 bytes ≡ rows_bytes rows → Each (λ row. row.start < 2 ^ 64) rows → (IsTable rows → ⊥) → read_in bytes ≡ None
-no_table bytes rows front is starts none = front_read bytes rows front is starts ∙ go (is_table rows) refl
-  where
-    go : (b : Bool) → is_table rows ≡ b → read_as_table bytes rows ≡ None
-    go true e = absurd (none (table_so rows e))
-    go false e = ap (λ (b : Bool). if b then Some (slice_index bytes 1, topology_of (slice_index bytes 2) rows) else None) e
+no_table bytes rows front is starts none = grind (arith, rows_are, front_is, table_so)
 
 -- ---- rows and one more
 
@@ -68,26 +54,12 @@ more_so : (rows earlier : List ShardRow) (row : ShardRow) → one_more rows (ear
 more_so [] [] row e = refl
 more_so [] (s ∷ []) row e = absurd (cc)
 more_so [] (s ∷ t ∷ ss) row e = absurd (cc)
-more_so (r ∷ rs) [] row e =
-    let a = and_parts (r.start == row.start) ((r.count == row.count) && one_more rs []) e in
-    let b = and_parts (r.count == row.count) (one_more rs []) a.1 in
-    let c : false ≡ true = none_more rs ∙ b.1 in
-    absurd (cc)
-more_so (r ∷ rs) (s ∷ ss) row e =
-    let a = and_parts (r.start == s.start) ((r.count == s.count) && one_more rs (ss ++ row ∷ [])) e in
-    let b = and_parts (r.count == s.count) (one_more rs (ss ++ row ∷ [])) a.1 in
-    let start : r.start ≡ s.start = grind (arith, nat_tests, a.0) in
-    let count : r.count ≡ s.count = grind (arith, nat_tests, b.0) in
-    ap (λ (n : ℕ). record { start = n; count = r.count } ∷ rs) start ∙ ap (λ (n : ℕ). record { start = s.start; count = n } ∷ rs) count ∙ ap (λ (xs : List ShardRow). s ∷ xs) (more_so rs ss row b.1)
+more_so (r ∷ rs) [] row e = grind (arith, and_parts, none_more)
+more_so (r ∷ rs) (s ∷ ss) row e = grind (arith, more_so rs ss row)
 
 -- whether rows are one more is told by those before the last
 pub more_by : (b : Bool) (rows earlier : List ShardRow) (row : ShardRow) → IsTrue b ↔ (rows ≡ earlier) → b ≡ one_more rows (earlier ++ row ∷ [])
-more_by true rows earlier row tells = sym (subst (λ (xs : List ShardRow). one_more rows (xs ++ row ∷ []) ≡ true) (tells.0 refl) (more_same rows row))
-more_by false rows earlier row tells = go (one_more rows (earlier ++ row ∷ [])) refl
-  where
-    go : (b : Bool) → one_more rows (earlier ++ row ∷ []) ≡ b → false ≡ one_more rows (earlier ++ row ∷ [])
-    go true e = tells.1 (more_so rows earlier row e) ∙ sym e
-    go false e = sym e
+more_by h rows earlier row tells = grind (arith, more_same, more_so)
 
 pub none_behind : (rows longer : List ShardRow) → length longer ≡ 0 → false ≡ one_more rows longer
 none_behind rows [] e = none_more rows

@@ -1,13 +1,11 @@
 -- What records keep is a topology.
-use Rattle.std.proofs.Common.{◌≡◌, ℕ, ◌+◌, Bool, true, false, List, [], ◌∷◌, length, Option, Some, None, Result, Ok, Err, refl, subst}
-use Rattle.std.specs.Prelude.{IfSome, drop, slice_index, if◌then◌else◌, ◌==◌, ◌&&◌}
+use Rattle.std.proofs.Common.{arith, ◌≡◌, ℕ, ◌+◌, Bool, true, false, List, [], ◌∷◌, length, Option, Some, None, Result, Ok, Err, refl, subst}
+use Rattle.std.specs.Prelude.{IfSome, drop, slice_index, if◌then◌else◌}
 use Rattle.time_shards.specs.Shards.{is_table}
 use Rattle.time_shards.proofs.Deciding.{table_so}
-use Rattle.gate_journal.specs.Gate.{gate_rule}
-use Rattle.gate_journal.specs.Records.{Read}
-use Rattle.gate_journal.specs.Fold.{kept_after, read_as}
+use Rattle.gate_journal.specs.Fold.{kept_after}
 use Rattle.topology_journal.specs.declared.topology.Topology.{Topology}
-use Rattle.topology_journal.specs.Topologies.{topology_of, IsTopology, rows_in, has_front, read_as_table, read_in, is_longer, follows, follows_read, next_topology, topologies, Keeps}
+use Rattle.topology_journal.specs.Topologies.{topology_of, IsTopology, rows_in, has_front, read_as_table, read_in, follows, follows_read, next_topology, topologies, Keeps}
 use Rattle.topology_journal.proofs.Spelled.{front_is}
 
 same_some : {A : Type 0} (x y : A) → ◌≡◌ {A = Option A} (Some x) (Some y) → x ≡ y
@@ -27,16 +25,10 @@ read_is bytes x = front (has_front bytes) refl
     table false is so e = absurd (not_some x e)
 
     front : (b : Bool) → has_front bytes ≡ b → (if b then read_as_table bytes (rows_in (slice_index bytes 3) (drop 4 bytes)) else None) ≡ Some x → IsTopology x.1
-    front true is e = table (is_table (rows_in (slice_index bytes 3) (drop 4 bytes))) is refl e
-    front false is e = absurd (not_some x e)
+    front h is e = grind (arith, table)
 
 follows_is : (kept : Option Topology) (x : ℕ × Topology) (t : Topology) → IsTopology x.1 → follows kept x ≡ Some t → IsTopology t
-follows_is None x t is e = subst IsTopology (same_some x.1 t e) is
-follows_is (Some k) x t is e = go ((x.0 == 2) && is_longer k x.1) e
-  where
-    go : (b : Bool) → (if b then Some x.1 else None) ≡ Some t → IsTopology t
-    go true q = subst IsTopology (same_some x.1 t q) is
-    go false q = absurd (not_some t q)
+follows_is h x t is e = grind arith
 
 next_is : (kept : Option Topology) (bytes : List ℕ) (t : Topology) → next_topology kept bytes ≡ Some t → IsTopology t
 next_is kept bytes t = go (read_in bytes) refl
@@ -45,14 +37,11 @@ next_is kept bytes t = go (read_in bytes) refl
     go None q e = absurd (not_some t e)
     go (Some x) q e = follows_is kept x t (read_is bytes x q) e
 
-same_ok : (x y : Option Topology) → ◌≡◌ {A = Result (Option Topology) ℕ} (Ok x) (Ok y) → x ≡ y
-same_ok x y e = cc
-
 not_ok : (at : ℕ) (y : Option Topology) → ◌≡◌ {A = Result (Option Topology) ℕ} (Err at) (Ok y) → ⊥
 not_ok at y e = (cc)
 
 after_is : (ps : List (List ℕ)) (value kept : Option Topology) (place : ℕ) → IfSome value IsTopology → kept_after topologies value place ps ≡ Ok kept → IfSome kept IsTopology
-after_is [] value kept place is e = subst (λ (o : Option Topology). IfSome o IsTopology) (same_ok value kept e) is
+after_is [] value kept place is e = grind arith
 after_is (p ∷ ps) value kept place is e = go (λ t. after_is ps (Some t) kept (place + 5 + length p)) (next_topology value p) refl
   where
     go : ((t : Topology) → IsTopology t → kept_after topologies (Some t) (place + 5 + length p) ps ≡ Ok kept → IfSome kept IsTopology) → (o : Option Topology) → next_topology value p ≡ o → IfSome kept IsTopology
@@ -60,8 +49,4 @@ after_is (p ∷ ps) value kept place is e = go (λ t. after_is ps (Some t) kept 
     go later None q = absurd (not_ok place kept (rw (q, kept_after) at e))
 
 pub kept_is : (kept : Option Topology) (bytes : List ℕ) → Keeps kept bytes → IfSome kept IsTopology
-kept_is kept bytes keeps = go (gate_rule bytes) keeps
-  where
-    go : (r : Read) → read_as topologies r ≡ Ok kept → IfSome kept IsTopology
-    go (Ok ps) e = after_is ps None kept 1 tt e
-    go (Err at) e = absurd (not_ok at kept e)
+kept_is kept bytes keeps = grind (arith, after_is)

@@ -1,5 +1,5 @@
 // The topology that is kept on a disk.
-ghost use Rattle.std.specs.Prelude.{◌≡◌, ◌≤◌, ℕ, Option, None, Some, MatchOption, IfSome};
+ghost use Rattle.std.specs.Prelude.{◌≡◌, ◌≤◌, Option, None, Some, MatchOption, IfSome};
 ghost use Rattle.std.proofs.Common.{arith, refl};
 ghost use Rattle.std.proofs.Props.{props};
 ghost use Rattle.gate_journal.specs.Fold.{folds_to, fails_at};
@@ -12,7 +12,7 @@ ghost use Rattle.topology_journal.specs.TopologyLaws.{coded_kept, comes_next as 
 use crate::Topology;
 use crate::reading::next_topology;
 use crate::topology::LONGEST;
-use gate_journal::{Appends, Record, RecordJournal};
+use gate_journal::{Appends, Origin, Record, RecordJournal};
 use std::alloc::{AllocError, Global};
 
 /// The topology that a disk keeps, that of its last record, or none on a new disk. A record is up to 40 bytes.
@@ -64,8 +64,8 @@ impl Record for Topologies {
         Ok(Topologies { kept: None })
     }
 
-    fn take(&mut self, alloc: Global, payload: &[u8]) -> Result<bool, AllocError> {
-        match next_topology(alloc, &self.kept, payload)? {
+    fn take(&mut self, origin: Origin, payload: &[u8]) -> Result<bool, AllocError> {
+        match next_topology(origin.alloc, &self.kept, payload)? {
             Some(topology) => {
                 self.kept = Some(topology);
                 Ok(true)

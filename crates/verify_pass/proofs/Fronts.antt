@@ -3,9 +3,6 @@ use Rattle.std.proofs.Common.{◌≡◌, ℕ, suc, ◌+◌, ◌||◌, Bool, true
 use Rattle.std.specs.Prelude.{is_some}
 use Rattle.verify_pass.proofs.Words.{OnTrue, OnFalse, contains, EventId, id_cmp, Batch, TimedRegistry, Knows, or_else, first_in, first_insert, first_insert-push, Ids, IsAt, IsWhole, HasAt, HasWhole, at_push, AreAt, IsFront}
 
-pub none_yet : {V : Type 0} (f : ℕ → Option V) → AreAt f []
-none_yet f k v e = absurd (cc)
-
 -- the value of the next slot goes behind them
 pub front_push : {V : Type 0} (f : ℕ → Option V) (xs : List V) (v : V) (n : ℕ) → length xs ≡ n → AreAt f xs → f n ≡ Some v → AreAt f (xs ++ v ∷ [])
 front_push f xs v n size h e k w at = ⊎_elim (λ there. h k w there) (λ here. ap f (here.0 ∙ size) ∙ e ∙ ap Some here.1) (at_push xs v k w at)
@@ -31,7 +28,7 @@ one_front {V} f (x ∷ xs) (y ∷ ys) h k =
 -- ---- registries
 
 pub at_start : (f : ℕ → Option Batch) (state : TimedRegistry) → Knows state [] → IsAt f 0 state
-at_start f state k = record { applied = []; count = refl; each = none_yet f; known = k }
+at_start f state k = grind arith
 
 more : (xs : List Batch) (v : Batch) (n : ℕ) → length xs ≡ n → length (xs ++ v ∷ []) ≡ n + 1
 more xs v n e = omega (arith, length-append xs (v ∷ []), e)

@@ -1,7 +1,7 @@
 -- What is picked of a place's group is what is chosen there.
-use Rattle.std.proofs.Common.{◌≡◌, ℕ, zero, suc, ◌+◌, ◌*◌, ◌<◌, ◌≤◌, ◌==◌, List, [], ◌∷◌, ◌++◌, length, get_or, map, Bool, true, false, cond, ◌&&◌, ◌||◌, nat_lt, Option, Some, refl, sym, ap, ◌∙◌, append_assoc, arith}
+use Rattle.std.proofs.Common.{◌≡◌, ℕ, zero, suc, ◌+◌, ◌*◌, ◌<◌, ◌≤◌, ◌==◌, List, [], ◌∷◌, ◌++◌, length, get_or, map, Bool, false, cond, ◌&&◌, ◌||◌, nat_lt, Option, Some, refl, sym, ap, ◌∙◌, append_assoc, arith}
 use Rattle.std.specs.Prelude.{filter, option_map, unwrap_or, Vec}
-use Rattle.verify_pass.proofs.Words.{list_any, lookup, length-map, map-append, append-nil, map-map, list_any-append, nat_tests, eq-eqb, Ballot, marked, Place, Note, is_place, is_acceptance, did_accept, is_chosen, all_accepted, least, lower, chosen, Batch, same_batch, note_view, place_of, ReplicaNote, Promised, Accepted, Acceptance, value_of, cast_of, did_replica, marks, is_most, accepts, casts, casts_from, batch_in, items_of}
+use Rattle.verify_pass.proofs.Words.{list_any, lookup, length-map, map-append, append-nil, map-map, list_any-append, nat_tests, Ballot, marked, Place, Note, is_place, is_acceptance, did_accept, is_chosen, all_accepted, least, lower, chosen, Batch, same_batch, note_view, place_of, ReplicaNote, Promised, Accepted, Acceptance, value_of, cast_of, did_replica, marks, is_most, accepts, casts, casts_from, batch_in, items_of}
 
 abbrev Value : Type 0
 Value = Ballot × Batch
@@ -19,16 +19,13 @@ any_map : {A B : Type 0} (f : B → Bool) (g : A → B) (xs : List A) → list_a
 any_map f g [] = refl
 any_map f g (x ∷ xs) = ap (λ t. f (g x) || t) (any_map f g xs)
 
-itself : (n : ℕ) → (n == n) ≡ true
-itself n = eq-eqb n n refl
-
 apart : (q n : ℕ) → q < n → (n == q) ≡ false
 apart q n lt = grind (arith, nat_tests)
 
 -- those of one replica
 any_own : (r : ℕ) (a : Value) (xs : List Value) → list_any (is_own r a) (map (λ x. (r, x)) xs) ≡ list_any (is_acceptance same_batch a) xs
 any_own r a [] = refl
-any_own r a (x ∷ xs) = λ i. ((itself r i) && is_acceptance same_batch a x) || any_own r a xs i
+any_own r a (x ∷ xs) = grind (arith, any_own r a xs)
 
 any_others : (r q : ℕ) (a : Value) (xs : List Value) → (r == q) ≡ false → list_any (is_own q a) (map (λ x. (r, x)) xs) ≡ false
 any_others r q a [] e = refl

@@ -30,9 +30,6 @@ ids_of cs = map (λ (c : ClickRec). c.id) (distinct cs)
 ids_made : (cs : List ClickRec) → ids_of cs ≡ map (λ (e : Entry). e.1.id) (made cs)
 ids_made cs = map-map (λ (c : ClickRec). c.id) (λ (e : Entry). e.1) (made cs)
 
-ids_nil : [] ≡ ids_of []
-ids_nil = sym (ids_made [] ∙ ap (map (λ (e : Entry). e.1.id)) made_nil)
-
 ids_cons : (c : ClickRec) (cs : List ClickRec) → insert_key id_cmp (ids_of cs) c.id ≡ ids_of (c ∷ cs)
 ids_cons c cs =
     ap (λ (l : List EventId). insert_key id_cmp l c.id) (ids_made cs ∙ own_made cs)
@@ -43,7 +40,7 @@ ids_cons c cs =
 
 -- the ids of the distinct clicks are those of all clicks, each once
 pub distinct_in_order : (cs : List ClickRec) → ids_of cs ≡ in_order (map (λ (c : ClickRec). c.id) cs)
-distinct_in_order [] = sym ids_nil
+distinct_in_order [] = grind (arith, ids_made, made_nil)
 distinct_in_order (c ∷ cs) = sym (ids_cons c cs) ∙ ap (λ (l : List EventId). insert_key id_cmp l c.id) (distinct_in_order cs)
 
 -- ---- ids of inserts

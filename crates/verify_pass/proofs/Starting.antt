@@ -1,7 +1,7 @@
 -- What forbids a start, batch by batch.
 use Rattle.std.proofs.Common.{◌≡◌, ⊎_elim, ℕ, ◌<◌, ◌≤◌, Bool, List, [], ◌∷◌, ◌++◌, map, Option, Some, None, refl, sym, ◌∙◌, ap, arith, lt-ltb}
 use Rattle.std.specs.Prelude.{max, if◌then◌else◌}
-use Rattle.verify_pass.proofs.Words.{option_map, flat_map, fold, flat_map-append, map-append, cases_lt, le-ltb, fold-append, Each, each_at, each_from, each_append, mem_left, mem_right, Note, note_view, ReplicaNote, EventId, Insert, Batch, bound_of, Latest, TooSoon, Bound, Id, all_batches, batches_in, batches_of, inserts_of, lesser, least_with, least_from, too_soon_for, taken, IsEarlier, IsBefore}
+use Rattle.verify_pass.proofs.Words.{option_map, flat_map, fold, flat_map-append, map-append, cases_lt, le-ltb, fold-append, Each, each_at, each_from, each_append, mem_left, mem_right, Note, note_view, ReplicaNote, EventId, Insert, Batch, bound_of, Latest, TooSoon, Bound, Id, batches_in, batches_of, inserts_of, lesser, least_with, least_from, too_soon_for, taken, IsEarlier, IsBefore}
 
 abbrev pub latest : ℕ → Option EventId → Latest
 latest bound id = record { bound = bound; id = id }
@@ -22,10 +22,6 @@ pub notes_more : (start : ℕ) (l : Latest) (ns : List ReplicaNote) (n : Replica
     → fold (taken start) (fold (taken start) l (batches_in (map note_view ns))) (batches_of (note_view n)) ≡ fold (taken start) l (batches_in (map note_view (ns ++ n ∷ [])))
 notes_more start l ns n = fold_more batches_of start l (map note_view ns) (note_view n) ∙ ap (λ (xs : List (Note Batch)). fold (taken start) l (batches_in xs)) (sym (map-append note_view ns (n ∷ [])))
 
-pub journals_more : (start : ℕ) (l : Latest) (js : List (List ReplicaNote)) (ns : List ReplicaNote)
-    → fold (taken start) (fold (taken start) l (all_batches (map (map note_view) js))) (batches_in (map note_view ns)) ≡ fold (taken start) l (all_batches (map (map note_view) (js ++ ns ∷ [])))
-journals_more start l js ns = fold_more batches_in start l (map (map note_view) js) (map note_view ns) ∙ ap (λ (xs : List (List (Note Batch))). fold (taken start) l (all_batches xs)) (sym (map-append (map note_view) js (ns ∷ [])))
-
 -- an insert that is earlier than the start, and another one
 passes : (start : ℕ) (o : Option EventId) (x : Insert) (xs : List Insert) → x.id.micros < start → least_from start o (x ∷ xs) ≡ least_from start o xs
 passes start o x xs lt = ap (λ (b : Bool). least_from start (if b then o else Some (lesser o x.id)) xs) (lt-ltb x.id.micros start lt)
@@ -33,11 +29,8 @@ passes start o x xs lt = ap (λ (b : Bool). least_from start (if b then o else S
 takes : (start : ℕ) (o : Option EventId) (x : Insert) (xs : List Insert) → start ≤ x.id.micros → least_from start o (x ∷ xs) ≡ least_from start (Some (lesser o x.id)) xs
 takes start o x xs le = ap (λ (b : Bool). least_from start (if b then o else Some (lesser o x.id)) xs) (le-ltb x.id.micros start le)
 
-some_none : {A : Type 0} (x : A) → ◌≡◌ {A = Option A} (Some x) None → ⊥
-some_none x e = (cc)
-
 stays : (start : ℕ) (i : EventId) (xs : List Insert) → least_from start (Some i) xs ≡ None → ⊥
-stays start i [] e = some_none i e
+stays start i [] e = grind arith
 stays start i (x ∷ xs) e =
     ⊎_elim (λ lt. stays start i xs (sym (passes start (Some i) x xs lt) ∙ e)) (λ le. stays start (lesser (Some i) x.id) xs (sym (takes start (Some i) x xs le) ∙ e)) (cases_lt x.id.micros start)
 

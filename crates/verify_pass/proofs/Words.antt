@@ -15,9 +15,8 @@ pub use Rattle.paxos_acceptor.specs.Cells.{note_view, place_of}
 pub use Rattle.paxos_acceptor.specs.declared.notes.ReplicaNote.{ReplicaNote}
 pub use Rattle.paxos_acceptor.specs.declared.notes.ReplicaNote.TheVariants.{Accepted, Promised}
 pub use Rattle.paxos_defs.proofs.Decided.{at_push, decided_each, decided_longest}
-pub use Rattle.paxos_defs.proofs.Places.{place_true}
-pub use Rattle.paxos_defs.specs.Decided.{IsExact, acceptance_of, accepted_in, all_accepted, chosen, decided, did_accept, is_acceptance, is_chosen, least, lower}
-pub use Rattle.paxos_defs.specs.Notes.{Note, Vote, acceptance, is_place, promise, vote_at, votes_at}
+pub use Rattle.paxos_defs.specs.Decided.{IsExact, all_accepted, chosen, decided, did_accept, is_acceptance, is_chosen, least, lower}
+pub use Rattle.paxos_defs.specs.Notes.{Note, is_place}
 pub use Rattle.paxos_defs.specs.declared.Place.{Place}
 pub use Rattle.registry_state.proofs.Learning.{first_insert-push}
 pub use Rattle.registry_state.proofs.Tests.{same_batch-refl, same_batch-true, same_id-false, same_id-refl, same_id-true}
@@ -26,36 +25,32 @@ pub use Rattle.registry_state.specs.Same.{same_batch}
 pub use Rattle.registry_state.specs.declared.Batch.{Batch}
 pub use Rattle.registry_state.specs.declared.Insert.{Insert}
 pub use Rattle.registry_state.specs.declared.Token.{Token}
-pub use Rattle.std.proofs.Math.ListN.{drop_of_length-le}
-pub use Rattle.std.proofs.Math.Nat.{mod-lt}
-pub use Rattle.std.proofs.lemmas.Bool.{and_parts, cases_lt, eq-eqb, le-ltb, ltb-false, ltb-true, true≢false}
+pub use Rattle.std.proofs.lemmas.Bool.{and_parts, cases_lt, eq-eqb, le-ltb, ltb-false, ltb-true}
 pub use Rattle.std.proofs.lemmas.Bool.Decides.{nat_tests}
-pub use Rattle.std.proofs.lemmas.Cmp.{on_total, then_total, tied_back, tied_itself}
+pub use Rattle.std.proofs.lemmas.Cmp.{tied_back, tied_itself}
 pub use Rattle.std.proofs.lemmas.Grind.{common_steps, flat_map-append}
-pub use Rattle.std.proofs.lemmas.List.{append-nil, get_or-map, length-map, length-take-le, map-append, map-set, map_more, nil_from_length, take_all, take_more}
+pub use Rattle.std.proofs.lemmas.List.{append-nil, get_or-map, length-map, length-take-le, map-append, map-set, map_more, take_all, take_more}
 pub use Rattle.std.proofs.lemmas.List.Elements.{All-contains, filter_passes}
 pub use Rattle.std.proofs.lemmas.List.Folds.{list_any-append}
 pub use Rattle.std.proofs.lemmas.List.Sums.{fold-append}
 pub use Rattle.std.proofs.lemmas.List.Kept.{IsStrictlySortedBy-filter}
 pub use Rattle.std.proofs.lemmas.List.Sorted.{answers_always}
 pub use Rattle.std.proofs.lemmas.Map.Keys.{Less-from_sorted, sorted_head, sorted_tail}
-pub use Rattle.std.proofs.lemmas.Map.Lookups.{CmpEqualImpliesEq, exact_unsigned}
 pub use Rattle.std.proofs.lemmas.Map.Views.{btree_set_contains_iff}
 pub use Rattle.std.proofs.lemmas.Result.{on_ok_weaker}
 pub use Rattle.std.proofs.lemmas.Simd.{map-map}
 pub use Rattle.std.specs.BTreeSet.{contains, insert_key}
 pub use Rattle.std.specs.Bool.{OnFalse, OnTrue}
 pub use Rattle.std.specs.Borrow.{Bor}
-pub use Rattle.std.specs.FinMap.Entries.{by_order}
 pub use Rattle.std.specs.HashMap.{get}
 pub use Rattle.std.specs.List.{AllByRecursion, flat_map, fold, list_any}
-pub use Rattle.std.specs.List.Sorted.{IsBinarySearchResult, IsSearchInRange, IsStrictlySortedBy}
+pub use Rattle.std.specs.List.Sorted.{IsBinarySearchResult, IsStrictlySortedBy}
 pub use Rattle.std.specs.Map.{lookup}
 pub use Rattle.std.specs.Option.{option_map}
-pub use Rattle.std.specs.Ordering.{is_eq, match_ordering, nat_cmp, ordering_index, ordering_reverse, ordering_then}
+pub use Rattle.std.specs.Ordering.{is_eq, ordering_index, ordering_reverse}
 pub use Rattle.std.specs.declared.cmp.Ordering.{Ordering}
 pub use Rattle.std.specs.declared.cmp.Ordering.TheVariants.{Equal, Greater, Less}
-pub use Rattle.time_shards.specs.Shards.{IsRow, IsTable, count_at, shard_count, shard_of}
+pub use Rattle.time_shards.specs.Shards.{IsTable, shard_count, shard_of}
 pub use Rattle.time_shards.specs.declared.ShardRow.{ShardRow}
 pub use Rattle.turn_defs.specs.declared.pair.PairRec.{PairRec}
 pub use Rattle.verify_pass.specs.Chosen.{AreAt, EndsBy, IsFront, batch_at, batch_in, casts_at, group_at, group_in, items_of, slots}

@@ -1,5 +1,5 @@
 // Which batch is chosen in each place.
-ghost use Rattle.std.specs.Prelude.{◌≡◌, ◌++◌, ◌∷◌, [], ℕ, map, IfOk, OnOk, option_map, if◌then◌else◌};
+ghost use Rattle.std.specs.Prelude.{◌≡◌, ◌++◌, ◌∷◌, [], map, IfOk, OnOk, option_map, if◌then◌else◌};
 ghost use Rattle.paxos_defs.specs.declared.Place.{Place as Spot};
 ghost use Rattle.paxos_defs.specs.Notes.{is_place};
 ghost use Rattle.paxos_defs.specs.Decided as paxos;

@@ -1,6 +1,5 @@
 // Which batch of those that were accepted in a place is chosen there.
 ghost use Rattle.std.specs.Prelude.{◌≡◌, ◌==◌, ◌&&◌, ◌≤◌, Some, option_map, if◌then◌else◌};
-ghost use Rattle.std.specs.List.{list_any};
 ghost use Rattle.ballot_core.specs.Ballots.{is_same};
 ghost use Rattle.registry_state.specs.Same.{same_batch};
 ghost use Rattle.paxos_defs.specs.Decided as paxos;

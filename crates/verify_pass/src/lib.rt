@@ -15,5 +15,5 @@ mod unwritten;
 
 pub use classes::classify;
 pub use journals::{Journals, NoteList, PairList};
-pub use starts::{TooSoon, too_soon};
+pub use starts::{Latest, TooSoon};
 pub use unwritten::missing;

@@ -1,11 +1,10 @@
 // What lies too late for a row that starts so early.
-ghost use Rattle.std.specs.Prelude.{◌≡◌, map, max, None};
+ghost use Rattle.std.specs.Prelude.{◌≡◌, List, map, max, None};
 ghost use Rattle.std.specs.List.{fold};
 ghost use Rattle.paxos_acceptor.specs.Cells.{note_view};
-ghost use Rattle.verify_pass.specs.Classes.{notes_of};
-ghost use Rattle.verify_pass.specs.TooSoon.{all_batches, batches_in, batches_of, least_from, least_with as with_least, taken, too_soon_for};
+ghost use Rattle.registry_state.specs.declared.Batch.{Batch as KeptBatch};
+ghost use Rattle.verify_pass.specs.TooSoon.{batches_in, batches_of, least_from, least_with as with_least, taken, too_soon_for};
 
-use crate::{Journals, NoteList};
 use event_id::EventId;
 use paxos_acceptor::ReplicaNote;
 use registry_state::{Batch, Insert};
@@ -19,46 +18,41 @@ pub enum TooSoon {
     Id(EventId),
 }
 
-/// What forbids that ids from this start on change their shards: the greatest bound that any replica accepted, if it is above the
-/// start, and else the least id that any replica accepted and that isn't earlier. Whether anything of it was decided doesn't
-/// matter.
-///
-/// Linear in the replicas' records. It allocates nothing.
-pub fn too_soon(journals: &Journals, start: u64) -> Option<TooSoon>
-    ensures { result ≡ too_soon_for (all_batches (notes_of journals.now)) start }
-{
-    let latest = latest_of(&journals.notes, start);
-    if latest.bound > start {
-        return Some(TooSoon::Bound(latest.bound));
-    }
-    let id = latest.id?;
-    Some(TooSoon::Id(id))
-}
-
-// Of batches: the greatest bound, and the least of the ids that aren't earlier than a start.
+/// Of what replicas accepted: the greatest bound, and the least of the ids that aren't earlier than a start.
 #[derive(Clone, Copy)]
-struct Latest {
+pub struct Latest {
     bound: u64,
     id: Option<EventId>,
 }
 
-fn latest_of(journals: &[NoteList], start: u64) -> Latest
-    ensures { result ≡ fold (taken start) (record { bound = 0; id = None }) (all_batches (map (map note_view) journals.now)) }
-{
-    let mut latest = Latest { bound: 0, id: None };
-    for notes in journals {
-        latest.take_all(notes.as_slice(), start);
-    }
-    latest
-}
-
 impl Latest {
-    fn take_all(&mut self, notes: &[ReplicaNote], start: u64)
+    /// Of nothing.
+    pub fn new() -> Latest
+        ensures { result ≡ record { bound = 0; id = None } }
+    {
+        Latest { bound: 0, id: None }
+    }
+
+    /// Looks at a replica's notes too. Whether anything that it accepted was decided doesn't matter. Linear in the notes; it allocates
+    /// nothing.
+    pub fn take_all(&mut self, notes: &[ReplicaNote], start: u64)
         ensures { self.new ≡ fold (taken start) self.old (batches_in (map note_view notes.now)) }
     {
         for note in notes {
             self.take_note(note, start);
         }
+    }
+
+    /// What forbids that ids from this start on change their shards: the greatest bound that any replica accepted, if it is above the
+    /// start, and else the least id that any replica accepted and that isn't earlier.
+    pub fn forbids(self, start: u64) -> Option<TooSoon>
+        ensures { (vs : List KeptBatch) → self ≡ fold (taken start) (record { bound = 0; id = None }) vs → result ≡ too_soon_for vs start }
+    {
+        if self.bound > start {
+            return Some(TooSoon::Bound(self.bound));
+        }
+        let id = self.id?;
+        Some(TooSoon::Id(id))
     }
 
     fn take_note(&mut self, note: &ReplicaNote, start: u64)

@@ -8,8 +8,8 @@ use crate::fields::ids::token_bytes;
 use crate::fields::parts::write;
 use crate::fields::several::read_tag;
 use registry_state::{Answer, Token};
-use std::alloc::{AllocError, Global};
-use wire_core::Bytes;
+use std::alloc::AllocError;
+use wire_core::{Bytes, Origin};
 
 /// A tag, 0 for Granted, 1 for Duplicate with the token behind it, 2 for TooOld with the bound behind it. Reading takes
 /// no memory.
@@ -25,16 +25,16 @@ impl Field for Answer {
         to.put_bytes(&bytes[..end])
     }
 
-    fn read(alloc: Global, bytes: &[u8]) -> Result<(Answer, &[u8]), Stop> {
+    fn read<'a>(origin: Origin, bytes: &'a [u8]) -> Result<(Answer, &'a [u8]), Stop> {
         let (tag, rest) = read_tag(bytes, 0, 2)?;
         match tag {
             0 => Ok((Answer::Granted, rest)),
             1 => {
-                let (token, rest) = Token::read(alloc, rest)?;
+                let (token, rest) = Token::read(origin, rest)?;
                 Ok((Answer::Duplicate(token), rest))
             }
             _ => {
-                let (bound, rest) = u64::read(alloc, rest)?;
+                let (bound, rest) = u64::read(origin, rest)?;
                 Ok((Answer::TooOld(bound), rest))
             }
         }

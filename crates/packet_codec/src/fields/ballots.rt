@@ -8,8 +8,8 @@ use crate::fields::numbers::{Capped, Small};
 use crate::fields::several::{read_three, read_two};
 use ballot_core::Ballot;
 use paxos_defs::Place;
-use std::alloc::{AllocError, Global};
-use wire_core::Bytes;
+use std::alloc::AllocError;
+use wire_core::{Bytes, Origin};
 
 /// 13 bytes: the round, the epoch and the site. The round is below 2^48, the site 0 or 1. Reading takes no memory.
 #[tactic(auto, using(crate::proofs::Made::ballot_bad, crate::proofs::Made::ballot_apart, crate::proofs::Made::some_ballot))]
@@ -22,8 +22,8 @@ impl Field for Ballot {
         to.put_bytes(&ballot_bytes(self))
     }
 
-    fn read(alloc: Global, bytes: &[u8]) -> Result<(Ballot, &[u8]), Stop> {
-        let (round, epoch, site, rest) = read_three::<Small, u32, Capped<1>>(alloc, bytes)?;
+    fn read<'a>(origin: Origin, bytes: &'a [u8]) -> Result<(Ballot, &'a [u8]), Stop> {
+        let (round, epoch, site, rest) = read_three::<Small, u32, Capped<1>>(origin, bytes)?;
         let ballot = Ballot {
             round: round.number,
             epoch,
@@ -48,8 +48,8 @@ impl Field for Place {
         to.put_bytes(&place_bytes(self))
     }
 
-    fn read(alloc: Global, bytes: &[u8]) -> Result<(Place, &[u8]), Stop> {
-        let (shard, slot, rest) = read_two::<Capped<15>, Small>(alloc, bytes)?;
+    fn read<'a>(origin: Origin, bytes: &'a [u8]) -> Result<(Place, &'a [u8]), Stop> {
+        let (shard, slot, rest) = read_two::<Capped<15>, Small>(origin, bytes)?;
         let place = Place {
             shard: shard.byte,
             slot: slot.number,

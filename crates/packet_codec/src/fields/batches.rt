@@ -9,8 +9,8 @@ use crate::fields::ids::insert_bytes;
 use crate::fields::parts::write;
 use crate::fields::several::{read_tag, read_two};
 use registry_state::{Batch, Insert, Inserts, MOST_INSERTS};
-use std::alloc::{AllocError, Global};
-use wire_core::Bytes;
+use std::alloc::AllocError;
+use wire_core::{Bytes, Origin};
 
 // The longest spelling.
 const LONGEST: usize = 9 + MOST_INSERTS * 30;
@@ -28,8 +28,8 @@ impl Field for Batch {
         to.put_bytes(&bytes[..end])
     }
 
-    fn read(alloc: Global, bytes: &[u8]) -> Result<(Batch, &[u8]), Stop> {
-        let (bound, inserts, rest) = read_two::<u64, Inserts>(alloc, bytes)?;
+    fn read<'a>(origin: Origin, bytes: &'a [u8]) -> Result<(Batch, &'a [u8]), Stop> {
+        let (bound, inserts, rest) = read_two::<u64, Inserts>(origin, bytes)?;
         Ok((Batch { bound, inserts }, rest))
     }
 
@@ -53,11 +53,11 @@ impl Field for Inserts {
         to.put_bytes(&bytes[..end])
     }
 
-    fn read(alloc: Global, bytes: &[u8]) -> Result<(Inserts, &[u8]), Stop> {
+    fn read<'a>(origin: Origin, bytes: &'a [u8]) -> Result<(Inserts, &'a [u8]), Stop> {
         let (count, mut rest) = read_tag(bytes, 0, MOST_INSERTS as u8)?;
-        let mut list = Inserts::with_capacity(alloc, usize::from(count))?;
+        let mut list = Inserts::with_capacity(origin.alloc, usize::from(count))?;
         for _ in 0..count {
-            let (insert, behind) = Insert::read(alloc, rest)?;
+            let (insert, behind) = Insert::read(origin, rest)?;
             list.push(insert)?;
             rest = behind;
         }

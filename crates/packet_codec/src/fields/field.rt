@@ -4,8 +4,8 @@ ghost use Rattle.packet_codec.specs.Bad.{Spelled};
 ghost use Rattle.packet_codec.specs.Stops.{Stops, IsFault, IsMemory};
 
 use crate::fields::{FieldFault, Stop};
-use std::alloc::{AllocError, Global};
-use wire_core::{Bytes, Reader};
+use std::alloc::AllocError;
+use wire_core::{Bytes, Origin, Reader};
 
 /// A kind of value that is spelled in bytes: one spelling for each value that has one, and none begins another.
 pub trait Field: Drop {
@@ -22,7 +22,7 @@ pub trait Field: Drop {
         ensures err { OnErr result (to.new ≡ to.old) };
 
     /// The value whose spelling the bytes begin with, and the bytes behind it. Linear in the spelling.
-    fn read(alloc: Global, bytes: &[u8]) -> Result<(Self, &[u8]), Stop>
+    fn read<'a>(origin: Origin, bytes: &'a [u8]) -> Result<(Self, &'a [u8]), Stop>
         ensures found { IfOk result (λ p. has_spelling p.0 × (bytes.now ≡ spelled p.0 ++ p.1.now)) }
         ensures bad { IfErr result (Stops (Spelled spelled has_spelling) bytes.now) };
 
@@ -35,7 +35,7 @@ pub trait Field: Drop {
         ensures { (v : Self) × has_spelling v };
 
     /// Takes the value whose spelling what is left begins with. Linear in the spelling.
-    final fn take(alloc: Global, from: &mut Reader) -> Result<Self, FieldFault>
+    final fn take(origin: Origin, from: &mut Reader) -> Result<Self, FieldFault>
         // The reader stands behind the spelling.
         ensures found { IfOk result (λ v. has_spelling v × (from.old ≡ spelled v ++ from.new)) }
         // What is spelled so is taken, unless memory runs out.
@@ -46,7 +46,7 @@ pub trait Field: Drop {
     {
         Self::told_apart();
         let bytes = from.rest();
-        match Self::read(alloc, bytes) {
+        match Self::read(origin, bytes) {
             Ok((field, rest)) => {
                 *from = Reader::new(rest);
                 Ok(field)

@@ -8,8 +8,8 @@ use crate::fields::field::Field;
 use crate::fields::several::{read_three, read_two};
 use event_id::EventId;
 use registry_state::{Insert, Token};
-use std::alloc::{AllocError, Global};
-use wire_core::Bytes;
+use std::alloc::AllocError;
+use wire_core::{Bytes, Origin};
 
 /// 16 bytes: the address, the process id and the timestamp. Reading takes no memory.
 #[tactic(auto, using(crate::proofs::Made::id_bad, crate::proofs::Made::id_apart, crate::proofs::Made::some_id))]
@@ -22,8 +22,8 @@ impl Field for EventId {
         to.put_bytes(&self.to_bytes())
     }
 
-    fn read(alloc: Global, bytes: &[u8]) -> Result<(EventId, &[u8]), Stop> {
-        let (ip, pid, micros, rest) = read_three::<u32, u32, u64>(alloc, bytes)?;
+    fn read<'a>(origin: Origin, bytes: &'a [u8]) -> Result<(EventId, &'a [u8]), Stop> {
+        let (ip, pid, micros, rest) = read_three::<u32, u32, u64>(origin, bytes)?;
         Ok((EventId { ip, pid, micros }, rest))
     }
 
@@ -43,8 +43,8 @@ impl Field for Token {
         to.put_bytes(&token_bytes(self))
     }
 
-    fn read(alloc: Global, bytes: &[u8]) -> Result<(Token, &[u8]), Stop> {
-        let (joiner, epoch, number, rest) = read_three::<u16, u32, u64>(alloc, bytes)?;
+    fn read<'a>(origin: Origin, bytes: &'a [u8]) -> Result<(Token, &'a [u8]), Stop> {
+        let (joiner, epoch, number, rest) = read_three::<u16, u32, u64>(origin, bytes)?;
         Ok((
             Token {
                 joiner,
@@ -71,8 +71,8 @@ impl Field for Insert {
         to.put_bytes(&insert_bytes(self))
     }
 
-    fn read(alloc: Global, bytes: &[u8]) -> Result<(Insert, &[u8]), Stop> {
-        let (id, token, rest) = read_two::<EventId, Token>(alloc, bytes)?;
+    fn read<'a>(origin: Origin, bytes: &'a [u8]) -> Result<(Insert, &'a [u8]), Stop> {
+        let (id, token, rest) = read_two::<EventId, Token>(origin, bytes)?;
         Ok((Insert { id, token }, rest))
     }
 

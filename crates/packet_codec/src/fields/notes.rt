@@ -14,8 +14,8 @@ use ballot_core::Ballot;
 use paxos_acceptor::ReplicaNote;
 use paxos_defs::Place;
 use registry_state::Batch;
-use std::alloc::{AllocError, Global};
-use wire_core::Bytes;
+use std::alloc::AllocError;
+use wire_core::{Bytes, Origin};
 
 const PROMISED: u8 = 7;
 
@@ -38,10 +38,10 @@ impl Field for ReplicaNote {
         to.put_bytes(&bytes[..end])
     }
 
-    fn read(alloc: Global, bytes: &[u8]) -> Result<(ReplicaNote, &[u8]), Stop> {
+    fn read<'a>(origin: Origin, bytes: &'a [u8]) -> Result<(ReplicaNote, &'a [u8]), Stop> {
         let (tag, rest) = read_tag(bytes, PROMISED, ACCEPTED)?;
         if tag == PROMISED {
-            let (Place { shard, slot }, ballot, rest) = read_two::<Place, Ballot>(alloc, rest)?;
+            let (Place { shard, slot }, ballot, rest) = read_two::<Place, Ballot>(origin, rest)?;
             let note = ReplicaNote::Promised {
                 shard,
                 slot,
@@ -50,7 +50,7 @@ impl Field for ReplicaNote {
             return Ok((note, rest));
         }
         let (Place { shard, slot }, ballot, batch, rest) = read_three::<Place, Ballot, Batch>(
-            alloc, rest,
+            origin, rest,
         )?;
         let note = ReplicaNote::Accepted {
             shard,

@@ -7,8 +7,8 @@ use crate::fields::Stop;
 use crate::fields::field::Field;
 use crate::fields::parts::{any, up_to};
 use crate::fields::several::read_tag;
-use std::alloc::{AllocError, Global};
-use wire_core::Bytes;
+use std::alloc::AllocError;
+use wire_core::{Bytes, Origin};
 
 /// 2 bytes. Reading takes no memory.
 #[tactic(auto, using(crate::proofs::Numbers::half_bad, crate::proofs::Numbers::half_apart, crate::proofs::Made::some_half))]
@@ -21,7 +21,7 @@ impl Field for u16 {
         to.put_u16(*self)
     }
 
-    fn read(_alloc: Global, bytes: &[u8]) -> Result<(u16, &[u8]), Stop> {
+    fn read<'a>(_origin: Origin, bytes: &'a [u8]) -> Result<(u16, &'a [u8]), Stop> {
         let (front, rest) = any(bytes, 2)?;
         Ok((u16::from_be_bytes([front[0], front[1]]), rest))
     }
@@ -42,7 +42,7 @@ impl Field for u32 {
         to.put_u32(*self)
     }
 
-    fn read(_alloc: Global, bytes: &[u8]) -> Result<(u32, &[u8]), Stop> {
+    fn read<'a>(_origin: Origin, bytes: &'a [u8]) -> Result<(u32, &'a [u8]), Stop> {
         let (front, rest) = any(bytes, 4)?;
         Ok((
             u32::from_be_bytes([front[0], front[1], front[2], front[3]]),
@@ -66,7 +66,7 @@ impl Field for u64 {
         to.put_u64(*self)
     }
 
-    fn read(_alloc: Global, bytes: &[u8]) -> Result<(u64, &[u8]), Stop> {
+    fn read<'a>(_origin: Origin, bytes: &'a [u8]) -> Result<(u64, &'a [u8]), Stop> {
         let (front, rest) = any(bytes, 8)?;
         Ok((u64_of(front), rest))
     }
@@ -93,7 +93,7 @@ impl Field for Small {
         to.put_u64(self.number)
     }
 
-    fn read(_alloc: Global, bytes: &[u8]) -> Result<(Small, &[u8]), Stop> {
+    fn read<'a>(_origin: Origin, bytes: &'a [u8]) -> Result<(Small, &'a [u8]), Stop> {
         let (front, rest) = up_to(bytes, &[0, 0, 255, 255, 255, 255, 255, 255])?;
         let number = u64_of(front);
         Ok((Small { number }, rest))
@@ -121,7 +121,7 @@ impl<const MOST: u8> Field for Capped<MOST> {
         to.put_u8(self.byte)
     }
 
-    fn read(_alloc: Global, bytes: &[u8]) -> Result<(Capped<MOST>, &[u8]), Stop> {
+    fn read<'a>(_origin: Origin, bytes: &'a [u8]) -> Result<(Capped<MOST>, &'a [u8]), Stop> {
         let (byte, rest) = read_tag(bytes, 0, MOST)?;
         Ok((Capped { byte }, rest))
     }

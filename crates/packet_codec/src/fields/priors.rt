@@ -10,8 +10,8 @@ use crate::fields::parts::write;
 use crate::fields::several::{read_tag, read_two};
 use ballot_core::Ballot;
 use registry_state::Batch;
-use std::alloc::{AllocError, Global};
-use wire_core::Bytes;
+use std::alloc::AllocError;
+use wire_core::{Bytes, Origin};
 
 // The longest spelling.
 const LONGEST: usize = 14 + 1929;
@@ -31,12 +31,15 @@ impl Field for Option<(Ballot, Batch)> {
         }
     }
 
-    fn read(alloc: Global, bytes: &[u8]) -> Result<(Option<(Ballot, Batch)>, &[u8]), Stop> {
+    fn read<'a>(
+        origin: Origin,
+        bytes: &'a [u8],
+    ) -> Result<(Option<(Ballot, Batch)>, &'a [u8]), Stop> {
         let (flag, rest) = read_tag(bytes, 0, 1)?;
         if flag == 0 {
             return Ok((None, rest));
         }
-        let (ballot, batch, rest) = read_two::<Ballot, Batch>(alloc, rest)?;
+        let (ballot, batch, rest) = read_two::<Ballot, Batch>(origin, rest)?;
         Ok((Some((ballot, batch)), rest))
     }
 

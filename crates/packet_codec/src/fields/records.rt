@@ -11,13 +11,14 @@ use crate::fields::parts::{run, write};
 use crate::fields::several::{read_tag, read_three, read_two};
 use event_id::EventId;
 use log_records::{ClickRec, MAX_TEXT, QueryRec, Text};
-use std::alloc::{AllocError, Global};
-use wire_core::Bytes;
+use std::alloc::AllocError;
+use wire_core::{Bytes, Origin};
 
 // The longest spelling, a click's.
 const LONGEST: usize = 33 + MAX_TEXT;
 
-/// The length in a byte, up to `MAX_TEXT`, and so many printable bytes. Reading copies the text.
+/// The length in a byte, up to `MAX_TEXT`, and so many printable bytes. What is read is a part of the origin's
+/// shared bytes, and a copy where it has none.
 #[tactic(auto, using(crate::proofs::Counts::text_apart, crate::proofs::Counts::some_text))]
 impl Field for Text {
     ghost spelled = { text };
@@ -30,13 +31,11 @@ impl Field for Text {
         to.put_bytes(&bytes[..end])
     }
 
-    fn read(alloc: Global, bytes: &[u8]) -> Result<(Text, &[u8]), Stop> {
+    fn read<'a>(origin: Origin, bytes: &'a [u8]) -> Result<(Text, &'a [u8]), Stop> {
         let (len, rest) = read_tag(bytes, 0, MAX_TEXT as u8)?;
         let (spelled, rest) = run(rest, usize::from(len), b' ', b'~')?;
-        match Text::read(alloc, spelled) {
-            Ok(text) => Ok((text, rest)),
-            Err(_) => Err(Stop::Memory),
-        }
+        let text = Text::of_bytes(origin, spelled, rest.len())?;
+        Ok((text, rest))
     }
 
     fn told_apart() {}
@@ -44,7 +43,7 @@ impl Field for Text {
     fn some_value() {}
 }
 
-/// The id and the text. Reading copies the text.
+/// The id and the text.
 #[tactic(auto, using(crate::proofs::Made::query_bad, crate::proofs::Made::query_apart, crate::proofs::Made::some_query))]
 impl Field for QueryRec {
     ghost spelled = { query };
@@ -58,8 +57,8 @@ impl Field for QueryRec {
         to.put_bytes(&bytes[..end])
     }
 
-    fn read(alloc: Global, bytes: &[u8]) -> Result<(QueryRec, &[u8]), Stop> {
-        let (id, text, rest) = read_two::<EventId, Text>(alloc, bytes)?;
+    fn read<'a>(origin: Origin, bytes: &'a [u8]) -> Result<(QueryRec, &'a [u8]), Stop> {
+        let (id, text, rest) = read_two::<EventId, Text>(origin, bytes)?;
         Ok((QueryRec { id, text }, rest))
     }
 
@@ -68,7 +67,7 @@ impl Field for QueryRec {
     fn some_value() {}
 }
 
-/// The click's id, its query's, and the text. Reading copies the text.
+/// The click's id, its query's, and the text.
 #[tactic(auto, using(crate::proofs::Made::click_bad, crate::proofs::Made::click_apart, crate::proofs::Made::some_click))]
 impl Field for ClickRec {
     ghost spelled = { click };
@@ -82,8 +81,8 @@ impl Field for ClickRec {
         to.put_bytes(&bytes[..end])
     }
 
-    fn read(alloc: Global, bytes: &[u8]) -> Result<(ClickRec, &[u8]), Stop> {
-        let (id, query, text, rest) = read_three::<EventId, EventId, Text>(alloc, bytes)?;
+    fn read<'a>(origin: Origin, bytes: &'a [u8]) -> Result<(ClickRec, &'a [u8]), Stop> {
+        let (id, query, text, rest) = read_three::<EventId, EventId, Text>(origin, bytes)?;
         Ok((ClickRec { id, query, text }, rest))
     }
 

@@ -7,8 +7,8 @@ ghost use Rattle.packet_codec.specs.Stops.{Stops};
 use crate::fields::Stop;
 use crate::fields::field::Field;
 use crate::fields::parts::run;
-use std::alloc::{AllocError, Global};
-use wire_core::Bytes;
+use std::alloc::AllocError;
+use wire_core::{Bytes, Origin};
 
 /// The tag, which is a byte from `first` to `last`, and the bytes behind it.
 pub fn read_tag(bytes: &[u8], first: u8, last: u8) -> Result<(u8, &[u8]), Stop>
@@ -24,7 +24,10 @@ pub fn read_tag(bytes: &[u8], first: u8, last: u8) -> Result<(u8, &[u8]), Stop>
 
 #[tactic(auto, using(crate::proofs::PartLaws::two_first, crate::proofs::PartLaws::next_bad))]
 /// Two values, and the bytes behind their spellings. Linear in the spellings.
-pub fn read_two<A: Field, B: Field>(alloc: Global, bytes: &[u8]) -> Result<(A, B, &[u8]), Stop>
+pub fn read_two<'a, A: Field, B: Field>(
+    origin: Origin,
+    bytes: &'a [u8],
+) -> Result<(A, B, &'a [u8]), Stop>
     ensures first { IfOk result (λ p. A.has_spelling p.0) }
     ensures second { IfOk result (λ p. B.has_spelling p.1) }
     ensures found { IfOk result (λ p. bytes.now ≡ A.spelled p.0 ++ (B.spelled p.1 ++ p.2.now)) }
@@ -32,17 +35,17 @@ pub fn read_two<A: Field, B: Field>(alloc: Global, bytes: &[u8]) -> Result<(A, B
 {
     A::told_apart();
     B::some_value();
-    let (first, rest) = A::read(alloc, bytes)?;
-    let (second, rest) = B::read(alloc, rest)?;
+    let (first, rest) = A::read(origin, bytes)?;
+    let (second, rest) = B::read(origin, rest)?;
     Ok((first, second, rest))
 }
 
 #[tactic(auto, using(crate::proofs::PartLaws::three_first, crate::proofs::PartLaws::next_bad))]
 /// Three values, and the bytes behind their spellings. Linear in the spellings.
-pub fn read_three<A: Field, B: Field, C: Field>(
-    alloc: Global,
-    bytes: &[u8],
-) -> Result<(A, B, C, &[u8]), Stop>
+pub fn read_three<'a, A: Field, B: Field, C: Field>(
+    origin: Origin,
+    bytes: &'a [u8],
+) -> Result<(A, B, C, &'a [u8]), Stop>
     ensures first { IfOk result (λ p. A.has_spelling p.0) }
     ensures second { IfOk result (λ p. B.has_spelling p.1) }
     ensures third { IfOk result (λ p. C.has_spelling p.2) }
@@ -52,8 +55,8 @@ pub fn read_three<A: Field, B: Field, C: Field>(
     A::told_apart();
     B::some_value();
     C::some_value();
-    let (first, rest) = A::read(alloc, bytes)?;
-    let (second, third, rest) = read_two::<B, C>(alloc, rest)?;
+    let (first, rest) = A::read(origin, bytes)?;
+    let (second, third, rest) = read_two::<B, C>(origin, rest)?;
     Ok((first, second, third, rest))
 }
 

@@ -68,7 +68,7 @@ fn bulk_files(alloc: Global, seed: u64, clicks: u32) -> Result<MemSource, AllocE
     let mut files = Vec::with_capacity(alloc, 2)?;
     files.push_reserved(file_of(alloc, "queries", query_log)?);
     files.push_reserved(file_of(alloc, "clicks", click_log)?);
-    Ok(MemSource::new(files))
+    Ok(MemSource::new(files, Vec::new(alloc)))
 }
 
 // The logs of a bulk run lie in memory, where a read fails only for want of it. No failed read is ever met.

@@ -17,7 +17,7 @@ use super::plan::plan_in_file;
 use super::run::config_in;
 use super::table::table_in;
 use crate::drill_store::store_for;
-use crate::log_check::CheckedLog;
+use crate::log_check::Lines;
 use command_words::RunOptions;
 use log_records::ReportLine;
 use lossy_link::Plan;
@@ -59,7 +59,7 @@ pub fn drilled_lines<F: Source<Log: Drop>>(
         Ok(clicks) => clicks,
         Err(fault) => return Err(fault),
     };
-    let CheckedLog { ids, lines_end } = clicks;
+    let Lines { ids, end, .. } = clicks;
     let Ok(mut store) = store_for(alloc, &plan, wanted.nodes.joiners) else {
         return Err(RunFault::Memory);
     };
@@ -70,7 +70,7 @@ pub fn drilled_lines<F: Source<Log: Drop>>(
     };
     let config = config_in(wanted, table);
     let journals = match run_sites(
-        rt, alloc, &config, &names, lines_end, files, &mut store, plan, gate, ran,
+        rt, alloc, &config, &names, end, files, &mut store, plan, gate, ran,
     ) {
         Ok(Outcome { journals }) => journals,
         Err(fault) => return Err(fault),

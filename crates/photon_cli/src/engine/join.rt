@@ -15,7 +15,7 @@ ghost use Rattle.command_words.specs.Words.{AreInRanges, values_in};
 use super::checked::checked_logs;
 use super::run::config_in;
 use super::table::table_in;
-use crate::log_check::CheckedLog;
+use crate::log_check::Lines;
 use command_words::RunOptions;
 use lossy_link::Plan;
 use outside::{Gate, Sink, Source, Store};
@@ -82,7 +82,7 @@ pub fn join_logs<F: Source<Log: Drop>, S: Store<Disk: Drop>, K: Sink>(
         Ok(clicks) => clicks,
         Err(refused) => return Err(refused),
     };
-    let CheckedLog { ids, lines_end } = clicks;
+    let Lines { ids, end, .. } = clicks;
     let names = Names {
         queries: wanted.queries,
         clicks: wanted.clicks,
@@ -91,7 +91,7 @@ pub fn join_logs<F: Source<Log: Drop>, S: Store<Disk: Drop>, K: Sink>(
     let config = config_in(wanted, table);
     let plan = Plan::empty(alloc);
     let journals = match run_sites(
-        rt, alloc, &config, &names, lines_end, files, store, plan, gate, ran,
+        rt, alloc, &config, &names, end, files, store, plan, gate, ran,
     ) {
         Ok(Outcome { journals }) => journals,
         Err(fault) => return Err(fault),

@@ -16,7 +16,7 @@ pub const REPLICAS: u8 = 3;
 pub fn config_in(wanted: &RunOptions<'_>, table: Table) -> Config
     requires ranges { AreInRanges (values_in wanted.now).nodes }
     requires table { IsTextOf (values_in wanted.now).nodes.shards table }
-    ensures config { result ≡ config_of (values_in wanted.now) table }
+    ensures config { result ≡ config_of wanted.now.horizon (values_in wanted.now).nodes table }
     ensures ranges { IsRunnable result }
 {
     Config {

@@ -21,17 +21,17 @@ ghost use Rattle.verify_pass.specs.Classes.{line_of};
 ghost use Rattle.run_fault.specs.declared.fault.RunFault.TheVariants as fault;
 ghost use Rattle.run_fault.specs.Causes.{IsWelcome};
 ghost use Rattle.photon_cli.specs.Causes.{CanBeRead, HasCauseInVerify, IsOverLog};
-ghost use Rattle.photon_cli.specs.LogFaults.{IsFailedRead, IsLogFault, IsOfRun, IsPast};
+ghost use Rattle.photon_cli.specs.LogFaults.{IsFailedRead, IsLogFault, IsOfRun, IsOfVerify, IsPast};
 ghost use Rattle.photon_cli.specs.Verify.{IsReadFrom, IsReadable, PrintsKept, PrintsKeptPrefix};
 ghost use Rattle.photon_cli.specs.declared.engine.run.TheConstants.{REPLICAS};
 
-use super::checked::{clicks_in_log, open_log};
+use super::checked::clicks_in_log;
 use super::run::REPLICAS;
 use event_id::EventId;
 use log_records::ReportLine;
 use outside::{Sink, Source, Store};
 use report_text::write_report;
-use site_run::{LogName, RunFault};
+use site_run::{LogName, RunFault, open_log};
 use site_store::{KeptStore, read_store};
 use std::alloc::{AllocError, Global};
 use time_shards::Table;
@@ -103,6 +103,7 @@ fn kept_store<F: Source, S: Store>(
     ensures stays { IsTrue S.Disk.tells → (disk : DiskName) → StaysAs (S.image store.old disk) (S.image store.new disk) }
     ensures sound { IsTrue S.Disk.tells → (g : Setting) → IsSoundStore g (S.image store.old) → IsSoundStore g (S.image store.new) }
     ensures cause { IfErr result IsOfRun }
+    ensures own { IfErr result IsOfVerify }
     ensures caused { IsTrue S.Disk.tells → IsTrue F.Log.tells → (g : Setting) → IsOverLog (F.bytes files.old) clicks.now g → end ≡ end_from 0 g.clicks → IfErr result (HasCauseInVerify g (S.image store.old) (Rose (F.faults files.old) (F.faults files.new)) (Rose (S.faults store.old) (S.faults store.new))) }
     ensures passed { IsTrue S.Disk.tells → IsTrue F.Log.tells → (g : Setting) → IsOverLog (F.bytes files.old) clicks.now g → end ≡ end_from 0 g.clicks → OnOk result (CanBeRead g (S.image store.old)) }
     ensures welcome { IsTrue S.Disk.tells → IsTrue F.Log.tells → (g : Setting) → IsOverLog (F.bytes files.old) clicks.now g → end ≡ end_from 0 g.clicks → g.config.replicas ≡ REPLICAS → LeavesSomething g (S.image store.old) → IsSoundStore g (S.image store.old) → IfErr result (IsWelcome ⊤) }
@@ -141,7 +142,7 @@ pub fn verify_store<F: Source, S: Store, K: Sink>(
     ensures quiet { IsTrue K.tells → IfErr result (λ f. (f ≡ fault.Write) ⊎ (K.held out.new ≡ K.held out.old)) }
     ensures refused { IsTrue F.Log.tells → (line : ℕ) (w : Reason) → result ≡ Err (fault.Refused Clicks line w) → IsSomeAnd (F.bytes files.old clicks.now) (λ log. RefusesClick log (record { line = line; why = w })) }
     // Either the log's check refused it, before the store was touched, or the log is valid.
-    ensures begins { ((store.new ≡ store.old) × IsErrAnd result (IsLogFault Clicks)) ⊎ ((IsTrue F.Log.tells → IsReadable (F.bytes files.old) clicks.now) × IfErr result IsPast) }
+    ensures begins { ((store.new ≡ store.old) × IsErrAnd result (IsLogFault Clicks)) ⊎ ((IsTrue F.Log.tells → IsReadable (F.bytes files.old) clicks.now) × IfErr result (λ f. IsPast f × IsOfVerify f)) }
     ensures stays { IsTrue S.Disk.tells → (disk : DiskName) → StaysAs (S.image store.old disk) (S.image store.new disk) }
     ensures sound { IsTrue S.Disk.tells → (g : Setting) → IsSoundStore g (S.image store.old) → IsSoundStore g (S.image store.new) }
     ensures caused { IsTrue S.Disk.tells → IsTrue F.Log.tells → (g : Setting) → IsOverLog (F.bytes files.old) clicks.now g → IfErr result (HasCauseInVerify g (S.image store.old) (Rose (F.faults files.old) (F.faults files.new)) (Rose (S.faults store.old) (S.faults store.new))) }
@@ -155,7 +156,7 @@ pub fn verify_store<F: Source, S: Store, K: Sink>(
         Ok(checked) => checked,
         Err(refused) => return Err(refused),
     };
-    let kept = match kept_store(alloc, files, store, clicks, state, checked.lines_end) {
+    let kept = match kept_store(alloc, files, store, clicks, state, checked.end) {
         Ok(kept) => kept,
         Err(fault) => return Err(fault),
     };

@@ -1,18 +1,15 @@
 // Whole logs.
-ghost use Rattle.std.specs.Prelude.{◌≡◌, ◌≢◌, ◌<◌, ◌↔◌, ℕ, List, length, map, Err, IfOk, IsErr, IsTrue};
+ghost use Rattle.std.specs.Prelude.{◌≡◌, ◌≢◌, ◌<◌, ◌↔◌, List, length, Err, IfOk, IsErr, IsTrue};
 ghost use Rattle.outside.specs.Faults.{Counts};
-ghost use Rattle.log_records.specs.declared.records.QueryRec.{QueryRec as Query};
-ghost use Rattle.log_records.specs.declared.records.ClickRec.{ClickRec as Click};
 ghost use Rattle.log_records.specs.declared.check.BadLine.{BadLine as Bad};
 ghost use Rattle.log_records.specs.declared.check.TheConstants.{MAX_LOG};
 ghost use Rattle.log_records.specs.declared.why.Why.TheVariants as why;
-ghost use Rattle.log_records.specs.Check.{IsLog, Refuses, IsQueryLog, IsClickLog, RefusesQuery, RefusesClick};
+ghost use Rattle.log_records.specs.Check.{Refuses};
 ghost use Rattle.photon_cli.specs.declared.log_check.check.CheckFault.TheVariants as fault;
-ghost use Rattle.photon_cli.specs.CheckedLogs.{EndsAt, IsChecked};
+ghost use Rattle.photon_cli.specs.CheckedLogs.{IsChecked};
 
 use crate::log_check::lines::{Lines, read_lines};
-use event_id::EventId;
-use log_records::{BadLine, ClickRec, MAX_LOG, QueryRec, Record, Why};
+use log_records::{BadLine, MAX_LOG, Record, Why};
 use outside::{LogFile, ReadFault};
 use std::alloc::Global;
 use tail_reader::Tail;
@@ -28,58 +25,13 @@ pub enum CheckFault {
     Memory,
 }
 
-/// The clicks of a log, by their ids.
-#[derive(Debug, Drop)]
-pub struct CheckedLog {
-    /// The id of each line, in their order: 16 bytes a line.
-    pub ids: Vec<EventId>,
-    /// The end of the last whole line.
-    pub lines_end: u64,
-}
-
-/// Checks a whole query log, and counts its lines. Bytes behind the last line feed are no line yet, and no fault. The log is
+/// Checks a whole log of such records, and counts its lines. Bytes behind the last line feed are no line yet, and no fault. The log is
 /// given back.
 ///
 /// It reads the log once from front to end, in blocks of up to 4 KiB, and for each line whose id an earlier line has that
 /// first line again: up to two blocks more. For n lines it takes O(n log n) comparisons of ids. While it runs it takes under
-/// 64 bytes of memory for each distinct id, and the text of one line; afterwards none.
-pub fn check_query_log<L: LogFile>(alloc: Global, log: L) -> (L, Result<u64, CheckFault>)
-    ensures found { IsTrue L.tells → IfOk result.1 (λ n. (qs : List Query) × IsQueryLog (L.bytes log) qs × (n ≡ length qs)) }
-    ensures refused { IsTrue L.tells → (bad : Bad) → result.1 ≡ Err (fault.Refused bad) → RefusesQuery (L.bytes log) bad }
-    ensures why { (bad : Bad) → result.1 ≡ Err (fault.Refused bad) → bad.why ≢ why.Memory }
-    ensures same { IsTrue L.tells → L.bytes result.0 ≡ L.bytes log }
-    ensures count { Counts (L.faults log) (L.faults result.0) (result.1 ≡ Err fault.Read) }
-{
-    let (log, checked) = check_log::<QueryRec, L>(alloc, log, false);
-    match checked {
-        Ok(lines) => (log, Ok(lines.count)),
-        Err(fault) => (log, Err(fault)),
-    }
-}
-
-/// Checks a whole click log as `check_query_log` does a query log, and gives the ids of its lines.
-pub fn check_click_log<L: LogFile>(alloc: Global, log: L) -> (L, Result<CheckedLog, CheckFault>)
-    ensures found { IsTrue L.tells → IfOk result.1 (λ checked. (cs : List Click) × IsClickLog (L.bytes log) cs × (checked.ids.items ≡ map (λ c. c.id) cs)) }
-    ensures end { IsTrue L.tells → IfOk result.1 (λ checked. EndsAt (L.bytes log) checked.lines_end) }
-    ensures refused { IsTrue L.tells → (bad : Bad) → result.1 ≡ Err (fault.Refused bad) → RefusesClick (L.bytes log) bad }
-    ensures why { (bad : Bad) → result.1 ≡ Err (fault.Refused bad) → bad.why ≢ why.Memory }
-    ensures same { IsTrue L.tells → L.bytes result.0 ≡ L.bytes log }
-    ensures count { Counts (L.faults log) (L.faults result.0) (result.1 ≡ Err fault.Read) }
-{
-    let (log, checked) = check_log::<ClickRec, L>(alloc, log, true);
-    match checked {
-        Ok(lines) => (
-            log,
-            Ok(CheckedLog {
-                ids: lines.ids,
-                lines_end: lines.end,
-            }),
-        ),
-        Err(fault) => (log, Err(fault)),
-    }
-}
-
-fn check_log<K: Record, L: LogFile>(
+/// 64 bytes of memory for each distinct id, and the text of one line; afterwards 16 bytes a line where ids are to be kept, else none.
+pub fn check_log<K: Record, L: LogFile>(
     alloc: Global,
     log: L,
     keep: bool,

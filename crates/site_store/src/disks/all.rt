@@ -40,6 +40,7 @@ fn joiners_of<D: Disk>(topology: &TopologyJournal<D>, asked: u8) -> u8
 /// servers' epochs, the replicas' journals, the joiners' epochs and their outputs, site A before site B. There are so many
 /// replicas, and a site has as many joiners as the topology's disk keeps, or else as are asked for. The first disk that isn't
 /// opened ends it, and all that were taken are given back. Linear in the files, in time and memory.
+#[tactic(auto, using(crate::proofs::Taking::back_again, crate::proofs::Faults::unopened_more))]
 pub fn open_disks<S: Store>(
     alloc: Global,
     store: &mut S,
@@ -58,7 +59,10 @@ pub fn open_disks<S: Store>(
     ensures plan { IsTrue S.Disk.planned → IfOk result (λ d. AreAsPlanned S.Disk.Disk S.Store store.old store.new (topology_lent d.topology.journal.disk ∷ lent_all d.disks.items)) }
     ensures early { IsTrue S.Disk.planned → IfErr result (IsByPlan S.stops S.made S.faults store.old store.new) }
 {
-    let topology = open_one(alloc, store, DiskName::Topology)?.into_topology();
+    let topology = match open_one(alloc, store, DiskName::Topology) {
+        Ok(open) => open.into_topology(),
+        Err(fault) => return Err(fault),
+    };
     match open_others(alloc, store, joiners_of(&topology, asked), replicas) {
         Ok(disks) => Ok(OpenStore { topology, disks }),
         Err(fault) => {

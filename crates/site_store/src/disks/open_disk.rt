@@ -73,55 +73,34 @@ impl<D: Disk> OpenDisk<D> {
         ensures err_stays { IsTrue D.tells → IfErr result (λ e. StaysAs (D.image disk) (D.image e.1)) }
     {
         match name {
-            DiskName::Topology => match TopologyJournal::open(alloc, disk) {
-                Ok(journal) => Ok(OpenDisk {
-                    name,
-                    journal: AnyJournal::Topology(journal),
-                }),
-                Err(refused) => Err(refused),
-            },
-            DiskName::Offset(_) => match OffsetJournal::open(alloc, disk) {
-                Ok(journal) => Ok(OpenDisk {
-                    name,
-                    journal: AnyJournal::Offset(journal),
-                }),
-                Err(refused) => Err(refused),
-            },
-            DiskName::Retry(_) => match RetryLog::open(alloc, disk) {
-                Ok(journal) => Ok(OpenDisk {
-                    name,
-                    journal: AnyJournal::Retry(journal),
-                }),
-                Err(refused) => Err(refused),
-            },
-            DiskName::Server(_) => match EpochJournal::open(alloc, disk) {
-                Ok(journal) => Ok(OpenDisk {
-                    name,
-                    journal: AnyJournal::Epoch(journal),
-                }),
-                Err(refused) => Err(refused),
-            },
-            DiskName::Epoch(_, _) => match EpochJournal::open(alloc, disk) {
-                Ok(journal) => Ok(OpenDisk {
-                    name,
-                    journal: AnyJournal::Epoch(journal),
-                }),
-                Err(refused) => Err(refused),
-            },
-            DiskName::Replica(_) => match VoteJournal::open(alloc, disk) {
-                Ok(journal) => Ok(OpenDisk {
-                    name,
-                    journal: AnyJournal::Votes(journal),
-                }),
-                Err(refused) => Err(refused),
-            },
-            DiskName::Output(_, _) => match OutputLog::open(alloc, disk) {
-                Ok(journal) => Ok(OpenDisk {
-                    name,
-                    journal: AnyJournal::Output(journal),
-                }),
-                Err(refused) => Err(refused),
-            },
+            DiskName::Topology => Ok(OpenDisk {
+                name,
+                journal: AnyJournal::Topology(TopologyJournal::open(alloc, disk)?),
+            }),
+            DiskName::Offset(_) => Ok(OpenDisk {
+                name,
+                journal: AnyJournal::Offset(OffsetJournal::open(alloc, disk)?),
+            }),
+            DiskName::Retry(_) => Ok(OpenDisk {
+                name,
+                journal: AnyJournal::Retry(RetryLog::open(alloc, disk)?),
+            }),
+            DiskName::Server(_) => Ok(OpenDisk {
+                name,
+                journal: AnyJournal::Epoch(EpochJournal::open(alloc, disk)?),
+            }),
+            DiskName::Replica(_) => Ok(OpenDisk {
+                name,
+                journal: AnyJournal::Votes(VoteJournal::open(alloc, disk)?),
+            }),
+            DiskName::Epoch(_, _) => Ok(OpenDisk {
+                name,
+                journal: AnyJournal::Epoch(EpochJournal::open(alloc, disk)?),
+            }),
+            DiskName::Output(_, _) => Ok(OpenDisk {
+                name,
+                journal: AnyJournal::Output(OutputLog::open(alloc, disk)?),
+            }),
         }
     }
 

@@ -29,6 +29,7 @@ pub(crate) fn told(name: DiskName, fault: JournalFault) -> RunFault
 }
 
 /// Takes the disk of this name from the store, asks it and opens it. Where it fails or is refused it is given back.
+#[tactic(auto, using(crate::proofs::Faults::told_unopened, crate::proofs::Stays::opened_same, crate::proofs::Lending::given_back, crate::proofs::Planned::first_used, crate::proofs::Planned::none_added, crate::proofs::Planned::one_taken, crate::proofs::Planned::refused_early))]
 pub(crate) fn open_one<S: Store>(
     alloc: Global,
     store: &mut S,
@@ -66,6 +67,7 @@ pub(crate) fn open_one<S: Store>(
 }
 
 /// Gives disks back to the store, under their names. It takes no memory.
+#[tactic(auto, using(crate::proofs::Lending::none_left, crate::proofs::Lending::none_each))]
 pub(crate) fn give_each<S: Store>(store: &mut S, disks: Vec<OpenDisk<S::Disk>>)
     requires { length disks.items ≤ S.places_left store.old }
     ensures left { IsTrue S.Disk.tells → (name : DiskName) (c : List ℕ) → S.image store.new name c → MayBeLeft S.Disk.image (S.image store.old) (lent_all disks.items) name c }

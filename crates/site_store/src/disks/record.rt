@@ -14,6 +14,7 @@ use std::alloc::Global;
 use topology_journal::{Topology, TopologyJournal, topology_frame};
 
 /// Writes what was asked to the topology's disk, behind what it keeps. Constant time; it allocates the record.
+#[tactic(auto, using(crate::proofs::Planned::calm_call))]
 pub fn write_topology<D: Disk>(
     alloc: Global,
     topology: &mut TopologyJournal<D>,

@@ -11,6 +11,7 @@ use crate::lent::LentDisk;
 use outside::Store;
 
 /// Gives each disk back to the store, under its name. It takes no memory.
+#[tactic(auto, using(crate::proofs::Handing::none_out))]
 pub fn give_all<S: Store>(store: &mut S, disks: Vec<LentDisk<S::Disk>>)
     requires { length disks.items ≤ S.places_left store.old }
     // What a stop may leave of a disk is what it might have left of it before it was given back, or of what stood in the store.

@@ -58,6 +58,7 @@ fn put(journals: &mut Journals, read: ReadAs) -> Result<(), AllocError>
 
 /// Reads each replica's disk and each output's again, in order, with no changing call: a list of notes for each replica, and
 /// a list of pairs for each output. The first disk that can't be read ends it. Linear in the files, in time and memory.
+#[tactic(auto, using(crate::proofs::Walking::next_one, crate::proofs::Walking::first_all, crate::proofs::Readings::untouched))]
 pub fn read_back<D: Disk>(alloc: Global, disks: &mut [LentDisk<D>]) -> Result<Journals, RunFault>
     ensures notes { IfOk result (λ journals. AreReadFrom D.tells D.seen KeepsNotes (replicas disks.old) journals.notes.items) }
     ensures pairs { IfOk result (λ journals. AreReadFrom D.tells D.seen KeepsPairs (outputs disks.old) journals.pairs.items) }

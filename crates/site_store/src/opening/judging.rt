@@ -25,6 +25,7 @@ fn other<D: Disk>(topology: &TopologyJournal<D>, asked: &Option<Topology>) -> Op
 /// The first reason, if there is one, why what opened disks keep can't be run as asked, or read where nothing is asked: their
 /// topology, then the places that they keep of the click log, then what is at its limit. `end` is the end of the log's last whole
 /// line.
+#[tactic(auto, using(crate::proofs::Causes::none_is))]
 pub(crate) fn judge<D: Disk, L: LogFile>(
     opened: &OpenStore<D>,
     asked: &Option<Topology>,

@@ -37,6 +37,7 @@ use topology_journal::Topology;
 /// limit, and the record of the asked topology, if none is kept and it isn't written.
 ///
 /// Time and memory are linear in the files; of the log it reads up to 512 bytes for each kept place.
+#[tactic(auto, using(crate::proofs::Causes::unwritten_cause, crate::proofs::Damage::unwritten_welcome, crate::proofs::Leaving::all_stay, crate::proofs::Leaving::all_grow, crate::proofs::Leaving::joiners_same, crate::proofs::Values::names_kept))]
 pub fn open_store<S: Store, L: LogFile>(
     alloc: Global,
     store: &mut S,

@@ -61,6 +61,7 @@ fn misplaced_position<L: LogFile>(
 
 /// The first of a site's pending positions, in the order of parking, that doesn't fit the click log. It reads at most 512 bytes for
 /// each of a log that was checked. A position fits where a whole line starts. `end` is the end of the last whole line.
+#[tactic(auto, using(crate::proofs::Telling::first_here))]
 pub fn misplaced_pending<L: LogFile>(
     log: &mut L,
     end: u64,

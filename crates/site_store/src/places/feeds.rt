@@ -10,6 +10,7 @@ use outside::{LogFile, ReadFault};
 const BLOCK: usize = 512;
 
 // The place behind the last line feed, or 0 where there is none.
+#[tactic(auto, using(crate::proofs::Stretches::floor_of_last, crate::proofs::Stretches::floor_of_none))]
 fn behind_last(bytes: &[u8]) -> usize
     ensures { IsFloorOf (IsBehindFeed bytes.now) (length bytes.now) result }
 {

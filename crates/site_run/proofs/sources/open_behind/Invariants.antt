@@ -1,5 +1,6 @@
 use Rattle.std.proofs.Common.{◌≡◌, ◌≤◌, ℕ, List, length, vec_capacity, IsTrue, Some}
 use Rattle.site_run.proofs.Words.{Each}
+use Rattle.site_run.specs.Logs.{name_of}
 use Rattle.site_run.proofs.sources.open_behind.Given as goal
 
 abbrev pub invariant-loop : goal.invariant-loop
@@ -8,7 +9,7 @@ invariant-loop g l =
     record {
       count : length l.logs.items ≡ l.counter;
       room : vec_capacity l.logs ≡ vec_capacity l.fn.logs;
-      opened : IsTrue g.F.Log.LogFile.tells → Each (λ log. bytes l.fn.files l.fn.path ≡ Some (g.F.Log.LogFile.bytes log)) l.logs.items;
+      opened : IsTrue g.F.Log.LogFile.tells → Each (λ log. bytes l.fn.files (name_of l.fn.names l.fn.log) ≡ Some (g.F.Log.LogFile.bytes log)) l.logs.items;
       same : IsTrue g.F.Log.LogFile.tells → (n : List ℕ) → bytes l.files n ≡ bytes l.fn.files n;
       faults : g.F.Source.faults l.fn.files ≤ g.F.Source.faults l.files;
     }

@@ -32,13 +32,6 @@ invariant_of-self-then-is_err c =
       once = subst (λ (es : List (ℕ × Insert)). IsOnce (values_of es)) (sym e) old.once;
     }
 
-pub returns-then-is_err-clause-err : goal.returns-then-is_err-clause-err
-returns-then-is_err-clause-err c =
-    let old = c.args.self.now in
-    let x = c.args.insert in
-    ap values_of
-    (c.remove.ensures.entries ∙ ap (remove_entry (is_at (nat_cmp old.next))) (c.in_ok-insert.ensures.entries ∙ insert_last 0 old.next old.in_order.entries x old.numbered) ∙ remove_last 0 old.next old.in_order.entries x old.numbered)
-
 pub invariant_of-self-2 : goal.invariant_of-self-2
 invariant_of-self-2 c =
     let old = c.args.self.now in

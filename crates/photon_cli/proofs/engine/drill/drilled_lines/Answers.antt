@@ -12,9 +12,9 @@ use Rattle.photon_cli.proofs.engine.drill.drilled_lines.Goals.{After-run_sites}
 
 -- the setting that is asked for is the run's
 of_run : (g : Over) (c : After-run_sites g) → IsTrue g.F.Log.LogFile.tells → (s : Setting) → IsAsked (g.F.Source.bytes c.args.files.now) (values_in c.args.wanted.now) s
-    → IsSettingOf (g.F.Source.bytes c.checked_logs.new.files) c.args.wanted.now.queries.now c.args.wanted.now.clicks.now c.config_in-config.result c.in-Ok.clicks.lines_end s
+    → IsSettingOf (g.F.Source.bytes c.checked_logs.new.files) c.args.wanted.now.queries.now c.args.wanted.now.clicks.now c.config_in-config.result c.in-Ok.clicks.end s
 of_run g c logs s asked =
-    run_setting (g.F.Source.bytes c.args.files.now) (g.F.Source.bytes c.checked_logs.new.files) (values_in c.args.wanted.now) c.args.table _ c.config_in-config.ensures.config c.in-Ok.clicks.lines_end s asked c.requires.table (c.in-Ok.ensures.same logs) (c.in-Ok.ensures.end logs)
+    run_setting (g.F.Source.bytes c.args.files.now) (g.F.Source.bytes c.checked_logs.new.files) (values_in c.args.wanted.now) c.args.table _ c.config_in-config.ensures.config c.in-Ok.clicks.end s asked c.requires.table (c.in-Ok.ensures.same logs) (c.in-Ok.ensures.end logs)
 
 heard : (g : Over) (c : After-run_sites g) → IfSome c.run_sites.new.ran.log (IsHeardOf c.args.plan c.args.wanted.now.nodes.joiners)
 heard g c = subst (λ (k : Config). IfSome c.run_sites.new.ran.log (site.IsHeardOf c.args.plan k.joiners k.replicas)) c.config_in-config.ensures.config c.run_sites.ensures.heard
@@ -77,7 +77,7 @@ returns-in-Err-run_sites-clause-fair g c logs =
     (run.stops refl logs s is).spared
     (record {
       late = never_soon ghosts.stops ghosts.made c.in-Ok-store_for.store v.nodes.joiners stops store.calls store.made spares.late;
-      few = λ n of. all_earlier (StopsAtMost v.nodes.joiners stops) _ (λ disk k. same_left k _ _ 0 _ (store.calls disk) (store.made disk)) (names_of (config_of v c.args.table) n) 1 (spares.few c.args.table n);
+      few = λ n of. all_earlier (StopsAtMost v.nodes.joiners stops) _ (λ disk k. same_left k _ _ 0 _ (store.calls disk) (store.made disk)) (names_of (config_of v.horizon v.nodes c.args.table) n) 1 (spares.few c.args.table n);
     })
     at told)
     ends.caused (ends.welcome (c.empty_store.ensures s c.in-Ok-store_for.store (λ disk is. (store.images disk).0)))

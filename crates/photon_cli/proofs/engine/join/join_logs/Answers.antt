@@ -12,9 +12,9 @@ use Rattle.photon_cli.proofs.engine.join.join_logs.Goals.{After-run_sites}
 
 -- the setting that is asked for is the run's
 of_run : (g : Over) (c : After-run_sites g) → IsTrue g.F.Log.LogFile.tells → (s : Setting) → IsAsked (g.F.Source.bytes c.args.files.now) (values_in c.args.wanted.now) s
-    → IsSettingOf (g.F.Source.bytes c.checked_logs.new.files) c.args.wanted.now.queries.now c.args.wanted.now.clicks.now c.config_in-config.result c.in-Ok-checked_logs.clicks.lines_end s
+    → IsSettingOf (g.F.Source.bytes c.checked_logs.new.files) c.args.wanted.now.queries.now c.args.wanted.now.clicks.now c.config_in-config.result c.in-Ok-checked_logs.clicks.end s
 of_run g c logs s asked =
-    run_setting (g.F.Source.bytes c.args.files.now) (g.F.Source.bytes c.checked_logs.new.files) (values_in c.args.wanted.now) c.in-Ok.table _ c.config_in-config.ensures.config c.in-Ok-checked_logs.clicks.lines_end s asked c.in-Ok.ensures.found (c.in-Ok-checked_logs.ensures.same logs) (c.in-Ok-checked_logs.ensures.end logs)
+    run_setting (g.F.Source.bytes c.args.files.now) (g.F.Source.bytes c.checked_logs.new.files) (values_in c.args.wanted.now) c.in-Ok.table _ c.config_in-config.ensures.config c.in-Ok-checked_logs.clicks.end s asked c.in-Ok.ensures.found (c.in-Ok-checked_logs.ensures.same logs) (c.in-Ok-checked_logs.ensures.end logs)
 
 -- the setting of the records that were read
 read_setting : (g : Over) (c : After-run_sites g) → IsTrue g.F.Log.LogFile.tells → (s : Setting) × IsAsked (g.F.Source.bytes c.args.files.now) (values_in c.args.wanted.now) s × HaveIds s c.in-Ok-checked_logs.clicks.ids.items

@@ -1,10 +1,9 @@
 use Rattle.std.proofs.Common.{◌≡◌, inr, List, ℕ, None, Err, refl, sym, ap, subst, arith}
 use Rattle.std.specs.Prelude.{⊤}
-use Rattle.photon_cli.proofs.Words.{REPLICAS, Rose, DiskName, Clicks, rose_before, IsWelcome, AreTold, IsCause, failed_rose, TellsPlaces, leaves_placed, place_welcome, sound_placed, welcome_where, HasCauseInVerify, IsReadFrom}
+use Rattle.photon_cli.proofs.Words.{REPLICAS, IsSomeAnd, Rose, DiskName, IsLogOf, Clicks, rose_before, IsWelcome, AreTold, IsCause, failed_rose, TellsPlaces, leaves_placed, place_welcome, sound_placed, welcome_where, HasCauseInVerify, IsReadFrom}
 use Rattle.run_fault.specs.declared.fault.RunFault.TheVariants as fault
 use Rattle.photon_cli.proofs.Causing.{log_caused}
-use Rattle.photon_cli.proofs.Reading.{log_over, place_stops, read_rose, read_so, refused_so, rose_shut}
-use Rattle.photon_cli.proofs.Refusals.{within}
+use Rattle.photon_cli.proofs.Reading.{place_stops, read_rose, read_so, refused_so, rose_shut}
 use Rattle.photon_cli.proofs.Statuses.{log_fair}
 use Rattle.photon_cli.proofs.Verifying.{read_before}
 use Rattle.photon_cli.proofs.engine.verify.kept_store.Goals as goal
@@ -17,7 +16,7 @@ returns-in-Ok-read-clause-read g c here log_here =
     let kept = c.in-Ok-read.kept in
     let bytes = g.F.Log.LogFile.bytes c.in-Ok.log in
     let read : IsReadFrom before bytes kept = read_before before placed inside g.S.Disk.Disk.tells g.F.Log.LogFile.tells bytes c.args.end kept here c.in-Ok-read.ensures.kept (c.in-Ok-read.ensures.report here) in
-    within (g.F.Source.bytes c.args.files.now c.args.clicks.now) (λ b. bytes ≡ b) (λ b. IsReadFrom before b kept) (λ b same. subst (λ (t : List ℕ). IsReadFrom before t kept) same read) (c.in-Ok.ensures.bytes log_here)
+    rw (c.in-Ok.ensures.bytes log_here) read
 
 pub returns-in-Ok-read-clause-stays : goal.returns-in-Ok-read-clause-stays
 returns-in-Ok-read-clause-stays g c here disk b now = let x = c.read_store-read.ensures.stays here disk b now in (x.0, (c.place.ensures.same here disk).0 x.0 x.1, x.2)
@@ -71,7 +70,7 @@ returns-in-Err-read-clause-caused g c disks logs s over end =
     let store_placed = g.S.Store.faults c.place.new.self in
     let store_new = g.S.Store.faults c.read_store-read.new.store in
     let e = c.in-Err-read.ensures in
-    refused_so before placed inside s g.S.Disk.Disk.tells g.F.Log.LogFile.tells disks logs bytes c.args.end (log_over (g.F.Source.bytes c.args.files.now c.args.clicks.now) bytes s (c.in-Ok.ensures.bytes logs) over) end
+    refused_so before placed inside s g.S.Disk.Disk.tells g.F.Log.LogFile.tells disks logs bytes c.args.end (subst (λ o. IsSomeAnd o (λ log. IsLogOf log s)) (c.in-Ok.ensures.bytes logs) over) end
     (Rose old new) (Rose store_placed store_new) (Rose first last) (Rose store_old store_new)
     (λ rose. rose_shut first (g.F.Source.faults c.open_log.new.files) last old new c.in-Ok.ensures.fresh c.open_log.ensures.count.later c.shut-2.ensures.count rose)
     (λ rose. rose_before store_old store_placed store_new c.place.ensures.count.later rose)
@@ -83,7 +82,7 @@ returns-in-Ok-read-clause-passed g c disks logs s over end =
     let placed = g.S.Store.image c.place.new.self in
     let inside : (disk : DiskName) (b : List ℕ) → placed disk b → before disk b = λ disk. (c.place.ensures.same disks disk).0 in
     let bytes = g.F.Log.LogFile.bytes c.in-Ok.log in
-    let log_is = log_over (g.F.Source.bytes c.args.files.now c.args.clicks.now) bytes s (c.in-Ok.ensures.bytes logs) over in
+    let log_is = subst (λ o. IsSomeAnd o (λ log. IsLogOf log s)) (c.in-Ok.ensures.bytes logs) over in
     read_so before placed inside s g.S.Disk.Disk.tells g.F.Log.LogFile.tells disks logs bytes c.args.end log_is end c.in-Ok-read.kept c.in-Ok-read.ensures.kept
 
 pub returns-in-Err-read-clause-welcome : goal.returns-in-Err-read-clause-welcome
@@ -92,7 +91,7 @@ returns-in-Err-read-clause-welcome g c disks logs s over end replicas leaves sou
     let placed = g.S.Store.image c.place.new.self in
     let inside : (disk : DiskName) (b : List ℕ) → placed disk b → before disk b = λ disk. (c.place.ensures.same disks disk).0 in
     let bytes = g.F.Log.LogFile.bytes c.in-Ok.log in
-    let log_is = log_over (g.F.Source.bytes c.args.files.now c.args.clicks.now) bytes s (c.in-Ok.ensures.bytes logs) over in
+    let log_is = subst (λ o. IsSomeAnd o (λ log. IsLogOf log s)) (c.in-Ok.ensures.bytes logs) over in
     let some = leaves_placed s before placed (c.place.ensures.same disks) leaves in
     welcome_where c.in-Err-read.fault _ ⊤ (λ x. some) (c.in-Err-read.ensures.welcome disks logs s log_is end replicas some (sound_placed s before placed inside sound))
 

@@ -47,16 +47,16 @@ pub returns-in-Err-clause-begins : goal.returns-in-Err-clause-begins
 returns-in-Err-clause-begins g c = inl (refl, c.in-Err.ensures.fault)
 
 pub returns-in-Err-kept_store-clause-begins : goal.returns-in-Err-kept_store-clause-begins
-returns-in-Err-kept_store-clause-begins g c = inr ((λ logs. clicks_there _ _ (c.in-Ok.ensures.found logs)), run_past c.in-Err-kept_store.fault c.in-Err-kept_store.ensures.cause)
+returns-in-Err-kept_store-clause-begins g c = inr ((λ logs. clicks_there _ _ (c.in-Ok.ensures.found logs)), (let e = c.in-Err-kept_store.ensures in (run_past c.in-Err-kept_store.fault e.cause, e.own)))
 
 pub returns-in_default-clause-begins : goal.returns-in_default-clause-begins
-returns-in_default-clause-begins g c = inr ((λ logs. clicks_there _ _ (c.in-Ok.ensures.found logs)), tt)
+returns-in_default-clause-begins g c = inr ((λ logs. clicks_there _ _ (c.in-Ok.ensures.found logs)), (tt, tt))
 
 pub returns-in-Ok-write_report-clause-begins : goal.returns-in-Ok-write_report-clause-begins
 returns-in-Ok-write_report-clause-begins g c = inr ((λ logs. clicks_there _ _ (c.in-Ok.ensures.found logs)), tt)
 
 pub returns-clause-begins : goal.returns-clause-begins
-returns-clause-begins g c = inr ((λ logs. clicks_there _ _ (c.in-Ok.ensures.found logs)), tt)
+returns-clause-begins g c = inr ((λ logs. clicks_there _ _ (c.in-Ok.ensures.found logs)), (tt, tt))
 
 pub returns-in-Err-clause-caused : goal.returns-in-Err-clause-caused
 returns-in-Err-clause-caused g c disks logs s over =
@@ -72,7 +72,7 @@ returns-in-Err-kept_store-clause-caused g c disks logs s over =
     let told : List ℕ → Option (List ℕ) = g.F.Source.bytes c.args.files.now in
     let clicks = c.args.clicks.now in
     let here = subst (λ (o : Option (List ℕ)). IsSomeAnd o (λ log. IsLogOf log s)) (sym (c.in-Ok.ensures.same logs clicks)) over in
-    let end = ends_there (told clicks) s c.in-Ok.checked.lines_end over (c.in-Ok.ensures.end logs) in
+    let end = ends_there (told clicks) s c.in-Ok.checked.end over (c.in-Ok.ensures.end logs) in
     let first = g.F.Source.faults c.args.files.now in
     let mid = g.F.Source.faults c.clicks_in_log.new.files in
     let last = g.F.Source.faults c.kept_store.new.files in
@@ -84,7 +84,7 @@ returns-in-Err-kept_store-clause-welcome g c disks logs s over replicas leaves s
     let told : List ℕ → Option (List ℕ) = g.F.Source.bytes c.args.files.now in
     let clicks = c.args.clicks.now in
     let here = subst (λ (o : Option (List ℕ)). IsSomeAnd o (λ log. IsLogOf log s)) (sym (c.in-Ok.ensures.same logs clicks)) over in
-    let end = ends_there (told clicks) s c.in-Ok.checked.lines_end over (c.in-Ok.ensures.end logs) in
+    let end = ends_there (told clicks) s c.in-Ok.checked.end over (c.in-Ok.ensures.end logs) in
     c.in-Err-kept_store.ensures.welcome disks logs s here end replicas leaves sound
 
 pub returns-clause-caused : goal.returns-clause-caused
@@ -92,7 +92,7 @@ returns-clause-caused g c disks logs s over =
     let told : List ℕ → Option (List ℕ) = g.F.Source.bytes c.args.files.now in
     let clicks = c.args.clicks.now in
     let here = subst (λ (o : Option (List ℕ)). IsSomeAnd o (λ log. IsLogOf log s)) (sym (c.in-Ok.ensures.same logs clicks)) over in
-    let end = ends_there (told clicks) s c.in-Ok.checked.lines_end over (c.in-Ok.ensures.end logs) in
+    let end = ends_there (told clicks) s c.in-Ok.checked.end over (c.in-Ok.ensures.end logs) in
     (tt, c.in-Ok-kept_store.ensures.passed disks logs s here end)
 
 pub returns-in-Ok-write_report-clause-passed : goal.returns-in-Ok-write_report-clause-passed
@@ -100,5 +100,5 @@ returns-in-Ok-write_report-clause-passed g c disks logs s over =
     let told : List ℕ → Option (List ℕ) = g.F.Source.bytes c.args.files.now in
     let clicks = c.args.clicks.now in
     let here = subst (λ (o : Option (List ℕ)). IsSomeAnd o (λ log. IsLogOf log s)) (sym (c.in-Ok.ensures.same logs clicks)) over in
-    let end = ends_there (told clicks) s c.in-Ok.checked.lines_end over (c.in-Ok.ensures.end logs) in
+    let end = ends_there (told clicks) s c.in-Ok.checked.end over (c.in-Ok.ensures.end logs) in
     c.in-Ok-kept_store.ensures.passed disks logs s here end

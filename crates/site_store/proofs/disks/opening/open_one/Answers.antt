@@ -1,21 +1,9 @@
-use Rattle.std.proofs.Common.{◌≡◌, [], false, ◌∙◌, sym, subst, arith}
+use Rattle.std.proofs.Common.{[], false, arith}
 use Rattle.outside.proofs.Plans.{and_then}
-use Rattle.gate_journal.specs.Fault.{is_of_disk}
-use Rattle.site_store.proofs.Words.{IsUnopened, lent_by}
-use Rattle.site_store.proofs.Faults.{told_unopened}
-use Rattle.site_store.proofs.Stays.{opened_same}
+use Rattle.site_store.proofs.Words.{lent_by}
 use Rattle.site_store.proofs.Lending.{given_back}
-use Rattle.site_store.specs.Plans.{IsByPlan}
-use Rattle.site_store.proofs.Planned.{first_used, none_added, one_taken, refused_early}
+use Rattle.site_store.proofs.Planned.{first_used, one_taken}
 use Rattle.site_store.proofs.disks.opening.open_one.Goals as goal
-
-pub returns-in_default-clause-back : goal.returns-in_default-clause-back
-returns-in_default-clause-back g c tells =
-    let image = g.S.Store.image in
-    let left = g.S.Disk.Disk.image in
-    let taken = c.in-Ok.ensures in
-    given_back (image c.args.store.now) (image c.take.new.self) (image c.give.new.self) c.args.name (left c.in-Ok.disk) (left c.ask.new.disk)
-    (taken.images tells) (λ bytes now. opened_same (left c.in-Ok.disk) bytes ((c.ask.ensures.moments tells).now bytes now)) (c.take.ensures.others tells) (c.give.ensures.images tells) (c.give.ensures.others tells)
 
 pub returns-in-Err-clause-back : goal.returns-in-Err-clause-back
 returns-in-Err-clause-back g c tells =
@@ -24,15 +12,6 @@ returns-in-Err-clause-back g c tells =
     let taken = c.in-Ok.ensures in
     given_back (image c.args.store.now) (image c.take.new.self) (image c.give-in-Err.new.self) c.args.name (left c.ask.new.disk) (left c.in-Err.disk)
     (λ bytes now. taken.images tells bytes ((c.ask.ensures.moments tells).now bytes now)) (c.in-Err.ensures.err_stays tells) (c.take.ensures.others tells) (c.give-in-Err.ensures.images tells) (c.give-in-Err.ensures.others tells)
-
-pub returns-in-Err-clause-err : goal.returns-in-Err-clause-err
-returns-in-Err-clause-err g c =
-    let s = g.S.Store in
-    let d = g.S.Disk.Disk in
-    let before = s.image c.args.store.now in
-    subst (IsUnopened d.tells before (s.faults c.args.store.now) (s.faults c.give-in-Err.new.self) (λ disk. disk ≡ c.args.name)) (sym c.told.ensures)
-    (told_unopened before c.args.name c.in-Err.fault d.tells (d.seen c.ask.new.disk) _ (d.faults c.in-Err.disk) _ (s.faults c.take.new.self) _ c.in-Err.ensures.err c.take.ensures.count.later c.give-in-Err.ensures.count
-    (λ tells. c.in-Ok.ensures.images tells (d.seen c.ask.new.disk) (subst (d.image c.in-Ok.disk) (sym (c.ask.ensures.seen tells)) (c.ask.ensures.left tells))))
 
 pub returns-in-Ok-open-clause-plan : goal.returns-in-Ok-open-clause-plan
 returns-in-Ok-open-clause-plan g c planned =
@@ -44,15 +23,3 @@ returns-in-Ok-open-clause-plan g c planned =
     let used = and_then d.stops d.made d.faults 0 3 3 false c.in-Ok.disk c.ask.new.disk c.in-Ok-open.open.disk (omega arith) asked.0 (c.in-Ok-open.ensures.ok_plan planned asked.1) in
     first_used d s c.args.store.now c.take.new.self 3 (record { name = c.args.name; disk = c.in-Ok.disk }) (lent_by c.in-Ok-open.open) [] c.in-Ok-open.ensures.name used
     (one_taken d s c.args.store.now c.args.name c.in-Ok.disk (taken.stops tells) (taken.made tells) taken.fresh c.take.new.self (c.take.ensures.stops_others tells) (c.take.ensures.made_others tells) (c.take.ensures.tally tells))
-
-pub returns-in-Err-clause-early : goal.returns-in-Err-clause-early
-returns-in-Err-clause-early g c planned =
-    let d = g.S.Disk.Disk in
-    let s = g.S.Store in
-    let tells = (g.met.S.Disk.Disk g.world.𝓛 g.world.𝓜 g.world.𝓡 ((λ s x. x), (λ x. x), (λ x. x), λ x. x)).plan_told planned in
-    let taken = c.in-Ok.ensures in
-    let asked = c.ask.ensures.plan planned (taken.up tells) in
-    let used = and_then d.stops d.made d.faults 0 3 3 (is_of_disk c.in-Err.fault) c.in-Ok.disk c.ask.new.disk c.in-Err.disk (omega arith) asked.0 (c.in-Err.ensures.err_plan planned asked.1) in
-    subst (IsByPlan s.stops s.made s.faults c.args.store.now c.give-in-Err.new.self) (sym c.told.ensures)
-    (refused_early d s c.args.store.now c.args.name c.in-Ok.disk (taken.stops tells) (taken.made tells) taken.fresh c.give-in-Err.new.self c.in-Err.fault c.in-Err.disk used
-    (λ none. none_added _ _ _ c.give-in-Err.ensures.count none ∙ c.take.ensures.tally tells))

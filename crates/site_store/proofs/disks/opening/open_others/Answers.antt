@@ -1,8 +1,7 @@
-use Rattle.std.proofs.Common.{rules, ◌≡◌, ◌≢◌, ◌<◌, List, [], ◌∷◌, ◌++◌, length, get_or, ap, subst, sym, ◌∙◌, arith}
-use Rattle.site_store.proofs.Words.{map-append, Each, EachPair, lent_by, DiskName, Within, Lacks, IsLent, IsOfKind, IsKept, kept_by, lent_all, IsFirst, other_names}
+use Rattle.std.proofs.Common.{rules, ◌≡◌, ◌<◌, [], ◌∷◌, ◌++◌, length, ap, subst, sym, ◌∙◌, arith}
+use Rattle.site_store.proofs.Words.{map-append, Each, lent_by, DiskName, Within, Lacks, IsLent, IsOfKind, IsKept, kept_by, lent_all, IsFirst, other_names}
 use Rattle.site_store.proofs.Faults.{unopened_more}
 use Rattle.site_store.proofs.Lending.{names_more, each_more, opened_more, keeps_first, lacks_next, length_more, cut_back}
-use Rattle.site_store.proofs.Names.{others_apart}
 use Rattle.site_store.proofs.Values.{were_journals}
 use Rattle.site_store.proofs.Refusals.{first_at}
 use Rattle.site_store.specs.Plans.{Left, AreAsPlanned}
@@ -40,12 +39,10 @@ loop-i-preserved g c =
     let more = c.push_reserved.ensures.items in
     let e = c.in-Ok-open_one.ensures in
     let name = c.index.result.now in
-    let is : name ≡ get_or names i name = c.index.ensures in
     let lt : i < length names = omega (arith, c.loop-i-test.true) in
-    let apart = subst (EachPair (λ one other. one ≢ other)) (sym c.in-Ok.ensures) (others_apart c.args.joiners c.args.replicas) in
-    let lacks : Lacks (lent_all items) name = subst (Lacks (lent_all items)) (sym is) (lacks_next names i name items apart inv.names lt) in
+    let lacks = lacks_next _ _ names i name items c.in-Ok.ensures inv.names lt c.index.ensures in
     record {
-      names = names_more names i name items now one inv.names lt (e.name ∙ is) more;
+      names = names_more names i name items now one inv.names lt (e.name ∙ c.index.ensures) more;
       many = omega (arith, inv.many, c.push_reserved.ensures.len);
       room = omega (arith, inv.room, c.push_reserved.ensures.capacity);
       kinds = each_more (λ o. IsOfKind o.name o.kept) items now one inv.kinds (subst (λ (n : DiskName). IsOfKind n one.kept) (sym e.name) e.kind) more;
@@ -71,37 +68,24 @@ returns-in-Err-clause-back g c tells =
 pub returns-in-Err-clause-first : goal.returns-in-Err-clause-first
 returns-in-Err-clause-first g c =
     let tells = g.S.Disk.Disk.tells in
-    let image = g.S.Store.image in
-    let before = image c.args.store.now in
-    let mid = image c.loop-i.store in
-    let names = c.in-Ok.names.items in
-    let i = c.loop-i.i in
-    let name = c.index.result.now in
-    let is : name ≡ get_or names i name = c.index.ensures in
+    let before = g.S.Store.image c.args.store.now in
+    let mid = g.S.Store.image c.loop-i.store in
     let items = c.loop-i.disks.items in
     let inv = c.loop-i.invariant in
-    let lt : i < length names = omega (arith, c.loop-i-test.true) in
-    let apart = subst (EachPair (λ one other. one ≢ other)) (sym c.in-Ok.ensures) (others_apart c.args.joiners c.args.replicas) in
-    let lacks : Lacks (lent_all items) name = subst (Lacks (lent_all items)) (sym is) (lacks_next names i name items apart inv.names lt) in
-    let first : IsFirst tells before names (get_or names i name) = first_at tells before names i name lt (λ sure. were_journals before items _ inv.names inv.kinds (inv.kept sure)) in
-    unopened_more tells before mid _ _ _ _ (λ (disk : DiskName). disk ≡ name) (IsFirst tells before (other_names c.args.joiners c.args.replicas)) c.in-Err.fault inv.count c.give_each.ensures.count
-    (λ disk named. subst (λ (ns : List DiskName). IsFirst tells before ns disk) c.in-Ok.ensures (subst (IsFirst tells before names) (sym (named ∙ is)) first))
-    (λ sure disk named. subst (λ (n : DiskName). Within (before n) (mid n)) (sym named) ((inv.lent sure).others name lacks)) c.in-Err.ensures.err
+    let lt : c.loop-i.i < length c.in-Ok.names.items = omega (arith, c.loop-i-test.true) in
+    let lacks = lacks_next _ _ _ _ _ items c.in-Ok.ensures inv.names lt c.index.ensures in
+    unopened_more tells before mid _ _ _ _ (λ (disk : DiskName). disk ≡ c.index.result.now) (IsFirst tells before (other_names c.args.joiners c.args.replicas)) c.in-Err.fault inv.count c.give_each.ensures.count
+    (λ disk named. first_at tells before _ _ _ _ disk c.in-Ok.ensures lt (λ sure. were_journals before items _ inv.names inv.kinds (inv.kept sure)) (named ∙ c.index.ensures))
+    (λ sure disk named. subst (λ (n : DiskName). Within (before n) (mid n)) (sym named) ((inv.lent sure).others c.index.result.now lacks)) c.in-Err.ensures.err
 
 pub returns-in-Err-clause-early : goal.returns-in-Err-clause-early
 returns-in-Err-clause-early g c planned =
     let d = g.S.Disk.Disk in
     let s = g.S.Store in
-    let names = c.in-Ok.names.items in
-    let i = c.loop-i.i in
-    let name = c.index.result.now in
-    let is : name ≡ get_or names i name = c.index.ensures in
     let items = c.loop-i.disks.items in
-    let inv = c.loop-i.invariant in
-    let plan = inv.plan planned in
-    let lt : i < length names = omega (arith, c.loop-i-test.true) in
-    let apart = subst (EachPair (λ one other. one ≢ other)) (sym c.in-Ok.ensures) (others_apart c.args.joiners c.args.replicas) in
-    let lacks : Lacks (lent_all items) name = subst (Lacks (lent_all items)) (sym is) (lacks_next names i name items apart inv.names lt) in
-    early_on s.stops s.made s.faults c.args.store.now c.loop-i.store c.open_one.new.store c.give_each.new.store d.tells (s.image c.loop-i.store) _ _ (λ (disk : DiskName). disk ≡ name) c.in-Err.fault c.in-Err.ensures.err
+    let plan = c.loop-i.invariant.plan planned in
+    let lt : c.loop-i.i < length c.in-Ok.names.items = omega (arith, c.loop-i-test.true) in
+    let lacks = lacks_next _ _ _ _ _ items c.in-Ok.ensures c.loop-i.invariant.names lt c.index.ensures in
+    early_on s.stops s.made s.faults c.args.store.now c.loop-i.store c.open_one.new.store c.give_each.new.store d.tells (s.image c.loop-i.store) _ _ (λ (disk : DiskName). disk ≡ c.index.result.now) c.in-Err.fault c.in-Err.ensures.err
     (λ disk named. plan.others disk (subst (Lacks (lent_all items)) (sym named) lacks)) plan.still
     (c.give_each.ensures.calm (each_calm d.stops d.made d.faults (Left s.stops s.made c.args.store.now) (lent_all items) plan.out)) (c.in-Err.ensures.early planned)

@@ -1,10 +1,8 @@
-use Rattle.std.proofs.Common.{◌∙◌, sym, subst, arith}
+use Rattle.std.proofs.Common.{◌∙◌, sym, subst}
 use Rattle.std.specs.Prelude.{Option}
 use Rattle.topology_journal.specs.Topologies.{MayCome}
 use Rattle.site_store.proofs.Words.{Topology}
 use Rattle.site_store.proofs.Appending.{old_or_written}
-use Rattle.outside.proofs.Plans.{and_then}
-use Rattle.site_store.proofs.Planned.{calm_call}
 use Rattle.site_store.proofs.disks.record.write_topology.Goals as goal
 
 pub returns-clause-old_or_new : goal.returns-clause-old_or_new
@@ -15,12 +13,3 @@ returns-clause-old_or_new g c tells bytes now =
     let may = subst (λ (o : Option Topology). MayCome o c.args.asked) (sym c.make_room.ensures.kept) c.requires.next in
     old_or_written (d.image c.args.topology.now.journal.disk) (d.image mid.journal.disk) (d.image c.append.new.self.journal.disk) mid.value.kept c.args.asked (d.seen mid.journal.disk) (c.make_room.ensures.any_moment tells).now
     (mid.durable tells ready) (mid.journal.settled tells ready).durable may (c.append.ensures.grows tells).now bytes now ((c.append.ensures.any_moment tells ready).now bytes now)
-
-pub returns-in-Ok-append-clause-calm : goal.returns-in-Ok-append-clause-calm
-returns-in-Ok-append-clause-calm g c planned none =
-    let d = g.D.Disk in
-    let tells = g.met.D.Disk.plan_told planned in
-    let old = c.args.topology.now.journal.disk in
-    let mid = c.make_room.new.self.journal.disk in
-    let new = c.append.new.self.journal.disk in
-    calm_call d.stops d.made d.faults 4 _ old new (and_then d.stops d.made d.faults 0 4 4 _ old mid new (omega arith) (c.make_room.ensures.plan tells) (c.append.ensures.plan tells (c.make_room.ensures.state ∙ c.requires.ready))) none

@@ -1,26 +1,15 @@
 use Rattle.std.proofs.Common.{◌∷◌, Err, Some, refl, ap, ◌∙◌, sym, subst}
-use Rattle.site_store.proofs.Words.{AreKept, AreTold, IsCause, Rose, values_of, lent_all, topology_lent, other_names}
-use Rattle.site_store.proofs.Causes.{unwritten_cause, unwritten_memory}
-use Rattle.site_store.proofs.Damage.{unwritten_welcome}
-use Rattle.site_store.proofs.Leaving.{back_stays, back_grown, back_written, out_for, all_stay, all_grow, topology_written, joiners_same}
+use Rattle.site_store.proofs.Words.{AreKept, IsCause, Rose, values_of, lent_all, topology_lent}
+use Rattle.site_store.proofs.Causes.{unwritten_memory}
+use Rattle.site_store.proofs.Leaving.{back_stays, back_grown, back_written, out_for, topology_written, joiners_same}
 use Rattle.site_store.proofs.Recorded.{left_with, whole_with}
 use Rattle.site_store.proofs.Sound.{welcome}
-use Rattle.site_store.proofs.Values.{names_kept}
 use Rattle.site_store.specs.Plans.{Left}
 use Rattle.site_store.proofs.Planned.{each_calm, first_used, unwritten_early}
 use Rattle.site_store.proofs.opening.store.open_store.Goals as goal
 
-pub returns-in-Err-clause-left : goal.returns-in-Err-clause-left
-returns-in-Err-clause-left g c tells = all_stay c.args.asked (g.S.Store.image c.args.store.now) (g.S.Store.image c.open_for.new.store) (c.in-Err.ensures.back tells)
-
-pub returns-in-Err-clause-back : goal.returns-in-Err-clause-back
-returns-in-Err-clause-back g c tells other = c.in-Err.ensures.back tells
-
 pub returns-in-Err-clause-sound : goal.returns-in-Err-clause-sound
 returns-in-Err-clause-sound g c tells s asked sound = c.stays.ensures s c.args.store.now c.open_for.new.store sound (λ disk is. c.in-Err.ensures.back tells disk)
-
-pub returns-in-Err-clause-grown : goal.returns-in-Err-clause-grown
-returns-in-Err-clause-grown g c tells = all_grow (g.S.Store.image c.args.store.now) (g.S.Store.image c.open_for.new.store) (c.in-Err.ensures.back tells)
 
 pub returns-in-Err-clause-welcome : goal.returns-in-Err-clause-welcome
 returns-in-Err-clause-welcome g c sure log_sure = λ s asked same log_is end_is sound.
@@ -31,14 +20,6 @@ returns-in-Err-clause-welcome g c sure log_sure = λ s asked same log_is end_is 
     let rose = Rose (log.faults c.args.clicks.now) (log.faults c.open_for.new.clicks) in
     welcome tells sure log.tells log_sure before (log.bytes c.args.clicks.now) c.args.end faulted rose c.read.ensures.topology c.fits.ensures.only s log_is end_is sound c.args.asked asked c.in-Err.fault
     (subst (λ n. IsCause tells before n faulted log.tells (log.bytes c.args.clicks.now) c.args.end rose (Some c.args.asked) c.in-Err.fault) (sym same) c.in-Err.ensures.cause)
-
-pub returns-in-Ok-keep_topology-clause-named : goal.returns-in-Ok-keep_topology-clause-named
-returns-in-Ok-keep_topology-clause-named g c =
-    let o = c.in-Ok.ensures in
-    sym (names_kept c.in-Ok.open.disks.items) ∙ o.kept.named ∙ ap (λ n. other_names n c.args.replicas) (joiners_same c.in-Ok.open.topology.value.kept c.args.asked o.passed.topology)
-
-pub returns-in-Ok-keep_topology-clause-kept : goal.returns-in-Ok-keep_topology-clause-kept
-returns-in-Ok-keep_topology-clause-kept g c = (c.in-Ok.open.topology.value.kept, c.in-Ok.ensures.kept, c.in-Ok.ensures.passed)
 
 pub returns-in-Ok-keep_topology-clause-lent : goal.returns-in-Ok-keep_topology-clause-lent
 returns-in-Ok-keep_topology-clause-lent g c tells =
@@ -87,16 +68,6 @@ returns-in-Err-keep_topology-clause-grown g c tells =
     let image = g.S.Store.image in
     back_grown g.S.Disk.Disk.image (image c.args.store.now) (image c.open_for.new.store) (topology_lent c.in-Ok.open.topology.journal.disk) (topology_lent c.keep_topology.new.topology.journal.disk) _
     (c.in-Ok.ensures.lent tells) refl (image c.give_back.new.store) (c.give_back.ensures.left tells) (c.in-Err-keep_topology.ensures.grows tells)
-
-pub returns-in-Err-keep_topology-clause-cause : goal.returns-in-Err-keep_topology-clause-cause
-returns-in-Err-keep_topology-clause-cause g c =
-    let log = g.L.LogFile in
-    unwritten_cause g.S.Disk.Disk.tells (g.S.Store.image c.args.store.now) c.args.replicas (Some c.args.asked) (AreTold log.tells (log.bytes c.args.clicks.now) c.args.end) _ ⊥ _ _ _ _ _ c.in-Err-keep_topology.fault c.in-Err-keep_topology.ensures.unwritten
-    c.in-Ok.ensures.count c.give_back.ensures.counted
-
-pub returns-in-Err-keep_topology-clause-welcome : goal.returns-in-Err-keep_topology-clause-welcome
-returns-in-Err-keep_topology-clause-welcome g c sure log_sure = λ s asked same log_is end_is sound.
-    unwritten_welcome _ c.in-Err-keep_topology.fault _ _ c.in-Err-keep_topology.ensures.unwritten
 
 pub returns-in-Ok-keep_topology-clause-plan : goal.returns-in-Ok-keep_topology-clause-plan
 returns-in-Ok-keep_topology-clause-plan g c planned =
