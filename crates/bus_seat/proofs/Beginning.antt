@@ -2,14 +2,10 @@
 use Rattle.std.proofs.Common.{◌≡◌, ℕ, Bool, List, [], ◌∷◌, ◌++◌, length, drop, Some, None, Option, Result, MatchOption, IfOk, sym, ap, ◌∙◌, append-nil, arith}
 use lib.Seq.{drop-append_seam}
 use Rattle.std.proofs.lemmas.List.{drop_all}
+use Rattle.bus_seat.proofs.Words.{Begins, Entry, Sat, Took, View, caught_up, holding, next_for, next_input, off, phase, sight}
 use Rattle.atomic_table.specs.Seated.{TableId}
-use Rattle.air_bus.specs.declared.entry.Entry.{Entry}
 use Rattle.air_bus.specs.declared.entry.Entry.TheVariants.{Begin}
 use Rattle.air_bus.specs.declared.entry.Input.{Input}
-use Rattle.air_bus.specs.History.{phase, next_input}
-use Rattle.bus_seat.specs.declared.view.View.{View}
-use Rattle.bus_seat.specs.Views.{Sat, Took, holding, caught_up, off}
-use Rattle.bus_seat.specs.Seats.{sight, Begins, next_for}
 use Rattle.bus_seat.proofs.Moves.{took_phase}
 
 drop_nothing : (xs : List Entry) → drop (length xs) xs ≡ []

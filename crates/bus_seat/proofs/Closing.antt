@@ -1,18 +1,10 @@
 -- All seats, joined into the last of them.
 use Rattle.std.proofs.Common.{◌≡◌, ℕ, zero, suc, ◌+◌, ◌<◌, ◌≤◌, List, [], ◌∷◌, ◌++◌, length, map, Some, None, Option, IfSome, MatchOption, refl, sym, ap, ◌∙◌, subst, arith, append_assoc, length-append}
-use Rattle.std.specs.Prelude.{All}
-use mathlib.Core.List.{IsPrefix, map-append}
-use Rattle.std.proofs.lemmas.List.Elements.{All-nil, All-cons, All-head, All-tail, All-append}
 use Rattle.atomic_table.specs.Seated.{TableId}
-use Rattle.air_bus.specs.declared.entry.Entry.{Entry}
 use mathlib.Core.Option.{some, some-injective}
-use lib.ListN.{get_elem?}
+use Rattle.bus_seat.proofs.Words.{All, All-append, All-cons, All-head, All-nil, All-tail, AreSeatsOf, BusId, Entry, Flight, IsAtRest, IsIn, IsPrefix, Sat, Sight, View, count, ended, ends, flown, fresh, fresh_to, gathered, get_elem?, joined, made_by, map-append, named, own, sight, tag, told}
 use Rattle.atomic_table.specs.Table.{Final, Seen}
-use Rattle.air_bus.specs.History.{Flight}
-use Rattle.bus_seat.specs.declared.view.View.{View}
-use Rattle.bus_seat.specs.Views.{count, flown, made_by, ended, own, told, named, joined, Sat}
 use Rattle.bus_seat.specs.Rule.{IsTold, Orderly}
-use Rattle.bus_seat.specs.Seats.{BusId, Sight, sight, IsAtRest, fresh, fresh_to, tag, AreSeatsOf, IsIn, ends, gathered}
 use Rattle.bus_seat.proofs.Moves.{closes}
 use Rattle.bus_seat.proofs.Sums.{named_append}
 

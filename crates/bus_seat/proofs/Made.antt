@@ -1,11 +1,7 @@
 -- The entries of one node in a history, and where they leave it.
 use Rattle.std.proofs.Common.{◌≡◌, ◌≢◌, ℕ, fold, Bool, true, false, List, [], ◌∷◌, ◌++◌, cond, if◌then◌else◌, refl, ap, ◌∙◌, eq-eqb, ne_eqb, append-nil}
-use Rattle.std.proofs.lemmas.List.Elements.{filter-append}
-use Rattle.air_bus.specs.declared.entry.Entry.{Entry}
+use Rattle.bus_seat.proofs.Words.{Down, Entry, filter-append, is_of, made_by, node_of, phase, phase_after, phase_step}
 use Rattle.air_bus.specs.declared.entry.Phase.{Phase}
-use Rattle.air_bus.specs.declared.entry.Phase.TheVariants.{Down}
-use Rattle.air_bus.specs.History.{node_of, is_of, phase_after, phase_step, phase}
-use Rattle.bus_seat.specs.Views.{made_by}
 
 pub made_here : (h : List Entry) (e : Entry) (n : ℕ) → node_of e ≡ n → made_by n (h ++ e ∷ []) ≡ made_by n h ++ e ∷ []
 made_here h e n is = filter-append (is_of n) h (e ∷ []) ∙ ap (λ b. made_by n h ++ (if b then e ∷ [] else [])) (eq-eqb _ _ is)

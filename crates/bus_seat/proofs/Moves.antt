@@ -1,24 +1,17 @@
 -- Each step keeps the rule.
 use Rattle.std.proofs.Common.{◌≡◌, ◌≢◌, ◌⊎◌, ℕ, suc, ◌+◌, ◌%◌, ◌^◌, ◌<◌, ◌≤◌, eqb, Bool, true, false, true≢false, List, [], ◌∷◌, ◌++◌, length, set, drop, get_or, Some, None, Option, IfSome, IsSome, is_some, refl, sym, ap, ◌∙◌, subst, inr, ⊎_elim, arith, append_assoc, append-nil, length-append, length-set, get_or-set_same, get_or-set_other, mod-eq_of_lt}
-use Rattle.std.specs.Prelude.{sum_by, All}
 use mathlib.Core.Logic.{dite}
 use mathlib.Core.Option.{some, none, some-injective}
 use mathlib.Core.Option.{Option as maybe}
-use mathlib.Core.List.{IsPrefix}
 use native.Mathlib.Decide.{ℕ_discrete, dec_le}
-use lib.ListN.{get_elem?}
 use lib.Seq.{set-get_or, drop-append_seam}
 use prog.Atomic.{either}
-use Rattle.std.proofs.lemmas.List.Elements.{All-nil, All-cons, All-head, All-tail, All-append}
 use Rattle.std.proofs.lemmas.List.Sums.{sum_by-cons}
+use Rattle.bus_seat.proofs.Words.{All, All-append, All-cons, All-head, All-nil, All-tail, Entry, Flight, IsPrefix, Sat, Took, View, added, after, blank, caught_up, dealt, ended, flown, get_elem?, given, gives_of, joined, made_by, named, newcomer, node_of, off, one_if, own, phase, same, some_one, sum_by, taken, told, turn_of}
 use Rattle.atomic_table.specs.Table.{State, Act, step, keeps, takes, gives, Valid, stepped, carried_after, rest, Allows, Splits, Joins, Final, Seen}
 use Rattle.atomic_table.proofs.Lists.{at_set, at_snoc, set_here, set_else, set_again, exchanged}
-use Rattle.air_bus.specs.declared.entry.Entry.{Entry}
-use Rattle.air_bus.specs.History.{Flight, node_of, phase}
 use Rattle.bus_seat.proofs.Made.{made_here, made_else, phase_made}
-use Rattle.bus_seat.specs.declared.view.View.{View}
 use Rattle.bus_seat.specs.declared.view.Ended.{Ended}
-use Rattle.bus_seat.specs.Views.{flown, made_by, ended, own, told, named, turn_of, gives_of, blank, dealt, newcomer, joined, after, Sat, Took, taken, same, caught_up, added, off, given, one_if, some_one}
 use Rattle.bus_seat.specs.Rule.{IsTold, Fits, Orderly}
 use Rattle.bus_seat.proofs.Fronts.{prefix_longer}
 use Rattle.bus_seat.proofs.Sums.{sum_set, sum_push, term_le, two_le, named_own, named_here, named_else, named_append, not_named}

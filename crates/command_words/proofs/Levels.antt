@@ -1,12 +1,8 @@
 -- The five commands, as a parse finds them.
-use Rattle.std.proofs.Common.{◌≡◌, ◌∙◌, ◌&&◌, Bool, true, List, [], ◌∷◌, ◌++◌, append_assoc, Some, refl, sym, ap, ap₂, subst, arith}
-use Rattle.std.specs.Prelude.{find, fold}
-use Rattle.clap.specs.Walk.{Walk, answers_to, nothing_held, walk, walk_from, walked}
-use Rattle.clap.specs.Simple.{Shape, built, built_leaf, inherited, label_of, marked_built, names_of, subcommand_of, with_leaf_noted}
-use Rattle.clap.specs.Takes.{level_passes, takes, turn_passes, walk_passes}
-use Rattle.std.proofs.lemmas.List.{append-nil}
-use Rattle.command_words.specs.Words.{Command, Pairs, Text, IsPlain, bulk, drill, join, name_of, options_of, pair_words, reshard, verify}
-use Rattle.command_words.specs.Clap.{photon_app, shape_of_command}
+use Rattle.std.proofs.Common.{◌≡◌, ◌∙◌, true, List, [], ◌∷◌, ◌++◌, append_assoc, Some, refl, sym, ap, subst, arith}
+use Rattle.command_words.proofs.Words.{Command, IsPlain, Pairs, Shape, Text, Walk, answers_to, append-nil, built, built_leaf, find, fold, inherited, join, label_of, marked_built, name_of, names_of, nothing_held, options_of, pair_words, photon_app, shape_of_command, subcommand_of, takes, walk, walk_from, with_leaf_noted}
+use Rattle.clap.specs.Walk.{walked}
+use Rattle.clap.specs.Takes.{walk_passes}
 use Rattle.command_words.proofs.Walks.{IsReady, Takes, level_takes, pair_rows}
 use Rattle.command_words.proofs.Tables.{all_fit}
 
@@ -16,17 +12,11 @@ sub c = built_leaf (inherited (with_leaf_noted (marked_built photon_app.top)) (s
 
 sub_found : (c : Command) → find (λ s. answers_to (name_of c) (label_of s)) (built photon_app).subs ≡ Some (sub c)
 sub_found join = refl
-sub_found drill = refl
-sub_found verify = refl
-sub_found bulk = refl
-sub_found reshard = refl
+sub_found _ = refl
 
 pub fit : (c : Command) → all_fit [] (options_of c) ≡ true
 fit join = refl
-fit drill = refl
-fit verify = refl
-fit bulk = refl
-fit reshard = refl
+fit _ = refl
 
 pub ready : (c : Command) → IsReady (sub c) (options_of c)
 ready c = grind arith
@@ -43,17 +33,7 @@ top_walked = walked (built photon_app).top.rules (names_of (built photon_app))
 name_enters : (c : Command) → top_walked (walk_from nothing_held) (name_of c) ≡ entered_at (name_of c) []
 unfolding walked
 name_enters join = refl
-name_enters drill = refl
-name_enters verify = refl
-name_enters bulk = refl
-name_enters reshard = refl
-
-name_passes : (c : Command) → turn_passes (built photon_app).top (names_of (built photon_app)) (walk_from nothing_held) (name_of c) ≡ true
-name_passes join = refl
-name_passes drill = refl
-name_passes verify = refl
-name_passes bulk = refl
-name_passes reshard = refl
+name_enters _ = refl
 
 rest_goes : (name : Text) (before rest : List Text) → fold top_walked (entered_at name before) rest ≡ entered_at name (before ++ rest)
 unfolding walked
@@ -65,15 +45,9 @@ unfolding walked walk_passes
 rest_passes name before [] = refl
 rest_passes name before (w ∷ ws) = rest_passes name (before ++ w ∷ []) ws
 
-walk_is : (c : Command) (rest : List Text) → walk (built photon_app).top.rules (names_of (built photon_app)) nothing_held (name_of c ∷ rest) ≡ entered_at (name_of c) rest
-walk_is c rest = ap (λ (w : Walk). fold top_walked w rest) (name_enters c) ∙ rest_goes (name_of c) [] rest
-
 passes_is : (c : Command) (rest : List Text) → walk_passes (built photon_app).top (names_of (built photon_app)) (walk_from nothing_held) (name_of c ∷ rest) ≡ true
 unfolding walk_passes
-passes_is c rest = ap₂ (λ (a b : Bool). a && b) (name_passes c) (ap (λ (w : Walk). walk_passes (built photon_app).top (names_of (built photon_app)) w rest) (name_enters c) ∙ rest_passes (name_of c) [] rest)
-
-top_passes : (c : Command) (rest : List Text) → level_passes (built photon_app).top (names_of (built photon_app)) nothing_held (name_of c ∷ rest) true ≡ true
-top_passes c rest = grind (arith, passes_is, walk_is)
+passes_is c rest = grind (arith, name_enters, rest_passes)
 
 -- what plain words give
 pub record Gives (words : List Text) (c : Command) (pairs : Pairs) : Type 0 where
@@ -81,7 +55,7 @@ pub record Gives (words : List Text) (c : Command) (pairs : Pairs) : Type 0 wher
   pub found : subcommand_of photon_app words ≡ Some (name_of c, pair_rows pairs)
 
 gives : (program : Text) (c : Command) (pairs : Pairs) → Takes (sub c) pairs → Gives (program ∷ name_of c ∷ pair_words pairs) c pairs
-gives program c pairs level = grind (arith, walk_is, sub_found, top_passes)
+gives program c pairs level = grind (arith, name_enters, rest_goes, sub_found, passes_is)
 
 pub plain_gives : (words : List Text) (c : Command) (pairs : Pairs) → IsPlain words c pairs → Gives words c pairs
 plain_gives words c pairs plain =

@@ -1,17 +1,9 @@
 -- Numbers as they are read.
-use Rattle.std.proofs.lemmas.Str.Parse.{digit_from_value}
-use Rattle.std.proofs.lemmas.Bool.{ne_eqb}
-use Rattle.std.proofs.Common.{◌≡◌, ◌∙◌, ◌≤◌, ℕ, Option, Some, None, Result, Ok, Err, refl, sym, ap, subst, arith, ◌==◌, Bool, false, cond, [], ◌∷◌, drop}
-use Rattle.std.specs.Prelude.{IsSomeAnd, option_map, unwrap_or}
+use Rattle.std.proofs.Common.{◌≡◌, ◌∙◌, ◌≤◌, ℕ, Option, Some, None, Result, Ok, Err, refl, sym, ap, subst, arith, [], ◌∷◌}
 use Rattle.std.specs.Borrow.{Bor}
-use Rattle.std.specs.Option.{option_map_or, option_or}
-use Rattle.std.specs.Str.Parse.{ParsesUnsigned, digits_value, without_leading_plus, AllDigits}
-use Rattle.clap.specs.Matches.{TriesOne, one_text}
-use Rattle.clap.specs.Values.{IsUnsignedIn}
-use Rattle.clap.specs.Walk.{one_of, rows_of}
+use Rattle.command_words.proofs.Words.{AllDigits, IsSomeAnd, IsUnsignedIn, ParsesUnsigned, Text, TriesOne, digits_value, one_of, one_text, option_map, option_map_or, option_or, rows_of, unwrap_or, without_leading_plus}
 use Rattle.clap.specs.declared.parser.matches.Found.{Found}
 use Rattle.clap.proofs.WalkLemmas.{one_text-rows}
-use Rattle.command_words.specs.Words.{Text}
 
 -- the number of a text that may be there
 abbrev pub written : Option Text → ℕ
@@ -20,9 +12,7 @@ written o = option_map_or (λ t. digits_value 10 (without_leading_plus t)) o 0
 -- digits have no plus before them
 pub no_plus : (ds : Text) → AllDigits 10 ds → without_leading_plus ds ≡ ds
 no_plus [] h = refl
-no_plus (d ∷ ds) h =
-    let plus : (d == 43) ≡ false = ne_eqb _ _ (λ e. omega (arith, digit_from_value d h.0)) in
-    ap (λ (b : Bool). drop (cond b 1 0) (d ∷ ds)) plus
+no_plus (d ∷ ds) h = grind arith
 
 -- the text of an option as written, or else its default
 pub or_default : (g d o : Option (Bor Text)) (r e : Bor Text) → r ≡ unwrap_or o e → o ≡ option_or g d → r.now ≡ unwrap_or (option_or (option_map (λ t. t.now) g) (option_map (λ t. t.now) d)) e.now

@@ -1,11 +1,8 @@
 -- What plain words ask for, as the parse finds it.
 use Rattle.std.proofs.Common.{◌≡◌, Option, subst, arith}
-use Rattle.clap.specs.Values.{kind_of}
-use Rattle.clap.specs.Kinds.{HasKind, Kinds}
+use Rattle.command_words.proofs.Words.{Command, HasKind, IsFaultOf, IsFound, IsRefusedBy, Kinds, Pairs, Text, Wish, given, kind_of, name_of, number_in, text_in}
 use Rattle.clap.specs.declared.error.Error.{Error}
 use Rattle.clap.specs.declared.error.kind.ErrorKind.TheVariants.{OutOfMemory}
-use Rattle.command_words.specs.Words.{Command, IsFaultOf, IsFound, IsRefusedBy, Pairs, Text, Wish, given, name_of}
-use Rattle.command_words.specs.Clap.{number_in, text_in}
 use Rattle.command_words.specs.declared.asked.WordsFault.{WordsFault}
 use Rattle.command_words.specs.declared.asked.WordsFault.TheVariants.{Memory}
 use Rattle.command_words.proofs.Walks.{first_given, one_given, pair_rows}

@@ -1,23 +1,10 @@
 -- The values of a command that `clap` took.
 use Rattle.std.proofs.Common.{◌≡◌, ◌∙◌, ◌<◌, ◌==◌, not, inl, inr, ℕ, Bool, true, false, cond, List, [], ◌∷◌, length, Option, Some, None, is_some, option_map, refl, true≢false, sym, ap, subst, arith}
-use Rattle.std.specs.Prelude.{IfSome, IsSomeAnd, find, option_and_then, slice_get, codes}
-use Rattle.std.specs.List.{AllByRecursion}
-use Rattle.std.specs.Option.{option_map_or, option_or}
-use Rattle.std.specs.Str.{bytes_eq}
 use Rattle.std.proofs.lemmas.Slice.Eq.{bytes_eq-Decides}
-use Rattle.clap.specs.Facts.{explicit_source, parser_of_value}
-use Rattle.clap.specs.ValueTests.{accepts}
-use Rattle.clap.specs.Walk.{Row, Rule, answers_to, arg_by_id, arg_by_index, finished, nothing_held, row_text, rows_after, stop_after, walk, walk_from}
-use Rattle.clap.specs.Simple.{Shape, argument_words, built, entered, filled, help_rule, label_of, names_of, rows_at, subcommand_of}
-use Rattle.clap.specs.Takes.{is_given}
+use Rattle.command_words.proofs.Words.{AllByRecursion, Command, Form, Given, HaveValues, IfSome, IsFound, IsInRanges, IsNamed, IsReadable, IsSomeAnd, Opt, Row, Rule, Shape, Text, Wish, accepts, answers_to, any_text, arg_by_id, arg_by_index, argument_words, built, bulk, bytes_eq, codes, drill, entered, explicit_source, filled, find, finished, given_as, help_rule, is_given, is_required, join, label_of, name_of, names_of, nothing_held, number, number_in, option_and_then, option_map_or, option_or, options_of, parser_of_value, photon_app, reshard, row_text, rows_after, rows_at, slice_get, some_text, stop_after, subcommand_of, text_in, value_of, verify, walk, walk_from, wish_by}
 use Rattle.clap.specs.Faults.{built_fault, check_fault, entered_fault, fault_of, level_fault, walk_fault}
 use Rattle.clap.specs.declared.builder.value_parser.ValueParser.TheVariants as vp
 use Rattle.clap.proofs.ValueTestLemmas.{accepts-Accepts}
-use Rattle.command_words.specs.declared.options.TheConstants.{MOST_CLICKS}
-use Rattle.command_words.specs.Words.{AreInRanges, Command, Given, HaveValues, IsFound, IsInRanges, IsNamed, IsReadable, Opt, Text, Wish, bulk, count, drill, given_as, is_required, join, name_of, node_options, nodes_by, options_of, reshard, value_of, verify, wish_by}
-use Rattle.command_words.specs.declared.options.Form.{Form}
-use Rattle.command_words.specs.declared.options.Form.TheVariants.{Number as number, AnyText as any_text, SomeText as some_text}
-use Rattle.command_words.specs.Clap.{number_in, photon_app, text_in}
 use Rattle.command_words.proofs.Walks.{AllKnown, Known, full_rule}
 use Rattle.command_words.proofs.Numbers.{number_within}
 use Rattle.command_words.proofs.Tables.{accepts_as, defaults_fit, full_rules}
@@ -34,22 +21,12 @@ owns_all : (c : List Rule) (options : List Opt) → AllKnown c options → arg_b
 owns_all c [] k help = (record { by_id = help; action = inr refl }, tt)
 owns_all c (o ∷ os) k help = (record { by_id = k.0.by_id; action = inl (refl, refl, omega arith) }, owns_all c os k.1 help)
 
-help_is : (c : Command) → arg_by_id (sub c).rules (codes "help") ≡ Some (filled help_rule)
-help_is join = refl
-help_is drill = refl
-help_is verify = refl
-help_is bulk = refl
-help_is reshard = refl
-
 owns : (c : Command) → AllByRecursion (IsOwn (sub c).rules) (sub c).rules
-owns c = subst (AllByRecursion (IsOwn (sub c).rules)) (sym (ready c).rules) (owns_all (sub c).rules (options_of c) (ready c).known (help_is c))
+owns c = grind (arith, sub, ready, owns_all)
 
 no_place : (c : Command) (i : ℕ) → arg_by_index (sub c).rules i ≡ None
 no_place join i = refl
-no_place drill i = refl
-no_place verify i = refl
-no_place bulk i = refl
-no_place reshard i = refl
+no_place _ i = refl
 
 sub_holds : (c : Command) (words : List Text) → level_fault (sub c) [] nothing_held words false [] ≡ [] → Holds (sub c) words
 sub_holds c words e = level_holds (sub c) (λ p a f. find_own (sub c).rules (sub c).rules p a (owns c) f) (ready c).once (no_place c) words (ready c).negates (ready c).none e
@@ -147,9 +124,7 @@ has_value c rows o k g needs fit =
     by_default (Some t) h fits = readable o.form t fits
 
     absent : (f : Form) → option_or (value_in f None) o.default ≡ o.default
-    absent (number low high) = refl
-    absent any_text = refl
-    absent some_text = refl
+    absent h = grind arith
 
     first : (r : Row) (good : IsGood c r) → good.rule ≡ full_rule o → (vs : List Text) → r.values ≡ vs → 0 < length vs → AllByRecursion (λ v. accepts good.rule.ignore_case (parser_of_value good.rule.parser) v ≡ true) vs
         → IsSomeAnd (option_or (value_in o.form (Some r)) o.default) (IsReadable o.form)
@@ -176,27 +151,16 @@ abbrev by_letter : Text → Command
 by_letter [] = join
 by_letter (x ∷ xs) = cond (x == 106) join (cond (x == 100) drill (cond (x == 118) verify (cond (x == 114) reshard bulk)))
 
-letter_tells : (c : Command) → by_letter (name_of c) ≡ c
-letter_tells join = refl
-letter_tells drill = refl
-letter_tells verify = refl
-letter_tells bulk = refl
-letter_tells reshard = refl
-
 -- no two commands have one name
 pub same_command : (a b : Command) → name_of a ≡ name_of b → a ≡ b
-same_command a b same = sym (letter_tells a) ∙ (ap by_letter same ∙ letter_tells b)
+same_command a b same = grind arith
 
 module _ (text_at number_at : Given) where
-  nodes_within : HaveValues text_at number_at IsReadable node_options → AreInRanges (nodes_by text_at number_at)
-  nodes_within h = grind arith
-
   within : (c : Command) → HaveValues text_at number_at IsReadable (options_of c) → IsInRanges (wish_by text_at number_at c)
-  within join h = nodes_within h.1.1.1.1
-  within drill h = nodes_within h.1.1.1.1
   within verify h = tt
-  within bulk h = record { count = (number_within (value_of count number_at) 0 MOST_CLICKS h.1.0).1; nodes = nodes_within h.1.1 }
+  within bulk h = grind (arith, number_within)
   within reshard h = tt
+  within k h = grind arith
 
   -- what a command asks for by values that may be read
   pub in_range : (w : Wish) (c : Command) → IsNamed w (name_of c) text_at number_at → HaveValues text_at number_at IsReadable (options_of c) → IsFound w (name_of c) text_at number_at × IsInRanges w

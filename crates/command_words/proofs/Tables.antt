@@ -1,19 +1,8 @@
 -- What a built command has of a table of options.
 use Rattle.std.proofs.Common.{◌≡◌, ◌++◌, ◌&&◌, not, Bool, true, false, List, [], ◌∷◌, map, Option, Some, is_some, arith}
-use Rattle.std.specs.Prelude.{nat_lt, unwrap_or}
-use Rattle.std.specs.List.{AllByRecursion, list_any}
-use Rattle.std.specs.Option.{option_map_or}
-use Rattle.std.specs.Str.{bytes_eq}
+use Rattle.command_words.proofs.Words.{AllByRecursion, Form, Opt, Rule, Text, accepts, any_text, bytes_eq, filled, help_rule, list_any, nat_lt, number, option_map_or, parser_of, parser_of_value, some_text, unwrap_or}
 use Rattle.clap.specs.Lexer.{long_of}
-use Rattle.clap.specs.Facts.{parser_of_value}
-use Rattle.clap.specs.ValueTests.{accepts}
-use Rattle.clap.specs.Walk.{Rule}
-use Rattle.clap.specs.Simple.{filled, help_rule}
 use Rattle.clap.specs.declared.builder.value_parser.ValueParser.TheVariants as vp
-use Rattle.command_words.specs.declared.options.Form.{Form}
-use Rattle.command_words.specs.declared.options.Form.TheVariants.{Number as number, AnyText as any_text, SomeText as some_text}
-use Rattle.command_words.specs.Words.{Opt, Text}
-use Rattle.command_words.specs.Clap.{parser_of}
 use Rattle.command_words.proofs.Walks.{full_rule}
 
 abbrev pub full_rules : List Opt → List Rule
@@ -42,9 +31,6 @@ abbrev pub all_fit : (before options : List Opt) → Bool
 all_fit before [] = true
 all_fit before (o ∷ os) = fits before o && all_fit (before ++ o ∷ []) os
 
-both : (a b : Bool) → (a && b) ≡ true → (a ≡ true) × (b ≡ true)
-both a b e = grind arith
-
 -- ---- its rules
 
 -- what the test of an option tells
@@ -53,12 +39,6 @@ Parts before o =
     (is_name o.name (long_of (45 ∷ 45 ∷ o.name)) ≡ true) × (not (bytes_eq (45 ∷ 45 ∷ o.name) (45 ∷ 45 ∷ [])) ≡ true)
     × (not (list_any (λ (b : Opt). bytes_eq b.name o.name) before) ≡ true) × (fits_number o.form ≡ true) × (option_map_or (accepts_as o.form) o.default true ≡ true)
 
-parts : (before : List Opt) (o : Opt) → fits before o ≡ true → Parts before o
-parts before o e = grind arith
-
 pub defaults_fit : (before options : List Opt) → all_fit before options ≡ true → AllByRecursion (λ (o : Opt). option_map_or (accepts_as o.form) o.default true ≡ true) options
 defaults_fit before [] e = tt
-defaults_fit before (o ∷ os) e =
-    let two = both (fits before o) (all_fit (before ++ o ∷ []) os) e in
-    let own : Parts before o = parts before o two.0 in
-    (own.4, defaults_fit (before ++ o ∷ []) os two.1)
+defaults_fit before (o ∷ os) e = grind (arith, defaults_fit (before ++ o ∷ []) os)

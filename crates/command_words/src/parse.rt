@@ -40,6 +40,7 @@ fn number(found: &ArgMatches<'_>, option: &Opt) -> Option<u64>
 }
 
 /// The number that a default is.
+#[tactic(auto, using(crate::proofs::Numbers::default_read, crate::proofs::Numbers::default_failed))]
 fn default_number(default: &str) -> Option<u64>
     ensures value { IfSome result (λ n. n ≡ digits_value 10 (without_leading_plus default.now)) }
     ensures reads { (low high : ℕ) → IsUnsignedIn low high default.now → IsSomeAnd result (λ n. n ≤ high) }

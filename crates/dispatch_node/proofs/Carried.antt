@@ -1,6 +1,5 @@
 -- What a turn takes carries what the disks, the log and the core say.
-use Rattle.std.proofs.Common.{◌≡◌, inl, ◌<◌, ℕ, zero, suc, length, get_or, arith, Bool, true, false, ◌==◌, List, [], ◌∷◌, ◌++◌, Option, Some, None, refl, sym, ap, ◌∙◌, subst}
-use Rattle.std.specs.Prelude.{cond, is_ok, is_err, Result, Ok, Err}
+use Rattle.std.proofs.Common.{◌≡◌, inl, ◌<◌, ℕ, zero, suc, length, get_or, arith, Bool, true, false, ◌==◌, List, [], ◌∷◌, ◌++◌, Option, Some, None, refl, sym, ap, ◌∙◌, subst, cond, is_ok, is_err, Result, Ok, Err}
 use Rattle.dispatch_node.proofs.Words.{option_map, ClickLine, eq-eqb, or_left, or_right, has, Distinct, clash, Click, Input, Start, Setting, DispatcherKept, DispatcherLive, dispatcher_looks, live_of, Stands, IsKept, IsLineAt, click_at, IsLookedUp, AreClicksAt, DispatchCore, TakenLine, kept_as, IsAsked, Knows, IsReadable, StartsAt, AreLivePlaces}
 
 -- any input but a Start

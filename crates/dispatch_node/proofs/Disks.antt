@@ -1,6 +1,5 @@
 -- What a journal of positions keeps, and why one isn't opened.
-use Rattle.std.proofs.Common.{◌≡◌, ℕ, Bool, true, false, not, ◌||◌, nat_eq, List, [], ◌∷◌, refl, ◌∙◌}
-use Rattle.std.specs.Prelude.{IsTrue}
+use Rattle.std.proofs.Common.{◌≡◌, ℕ, Bool, true, false, not, ◌||◌, nat_eq, List, [], ◌∷◌, refl, ◌∙◌, IsTrue}
 use Rattle.std.specs.List.{IsDistinct}
 use Rattle.dispatch_node.proofs.Words.{AllByRecursion, remove_key, nat_eq_equiv, not-true, has, without, Distinct, Fold, folds_to, fails_at, JournalFault, IsUndamaged, any_has, removed}
 use Rattle.gate_journal.specs.declared.reading.JournalFault.TheVariants as journal

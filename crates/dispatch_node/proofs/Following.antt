@@ -1,6 +1,5 @@
 -- A row's note is one that the disks take, and what is known goes on to fit what they keep.
-use Rattle.std.proofs.Common.{◌≡◌, ◌⊎◌, inl, inr, ⊎_elim, ℕ, ◌<◌, ◌≤◌, Bool, true, false, ◌==◌, List, [], ◌∷◌, ◌++◌, Option, Some, None, refl, sym, subst, arith}
-use Rattle.std.specs.Prelude.{option_map}
+use Rattle.std.proofs.Common.{◌≡◌, ◌⊎◌, inl, inr, ⊎_elim, ℕ, ◌<◌, ◌≤◌, Bool, true, false, ◌==◌, List, [], ◌∷◌, ◌++◌, Option, Some, None, refl, sym, subst, arith, option_map}
 use Rattle.dispatch_node.proofs.Words.{and_parts, not-true, or_cases, eqb-true, eq-eqb, or_left, or_right, Mem, has, without, clash, option_both, cond_both, each_append, has_push-or, has_push-left, has_push-false, has_without-true, has_without, has_without-false, ClickLine, at, Follow, at_mem, Input, Packet, Outcome, Setting, Note, Out, land, idle, DispatcherKept, DispatcherLive, Fresh, land_dispatcher, done_end, after_done, first_done, waits, mark, has_room, with_room, advances, retries, takes, taken, ends, parks, dispatcher_own, dispatcher_gets, dispatcher_joined, dispatcher_turn, dispatcher_start, told, DispatchNote, takes_note, takes_or_none, AreInOrder, Follows, IsRowTaken, IsEntry, AreKeptPlaces, AreLivePlaces}
 use Rattle.turn_defs.specs.declared.packet.Packet.TheVariants as packet
 use Rattle.dispatch_node.proofs.Places.{pushed, left_out, end_boundary, after_each, mark_each, waits_start}

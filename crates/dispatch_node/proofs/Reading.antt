@@ -1,6 +1,5 @@
 -- What a reader of a checked log finds where a line starts, or where the last one ends.
-use Rattle.std.proofs.Common.{◌≡◌, ◌⊎◌, inl, inr, ⊎_elim, ℕ, suc, ◌+◌, ◌<◌, ◌≤◌, List, [], ◌∷◌, ◌++◌, length, drop, Option, Some, None, refl, sym, ap, ◌∙◌, subst, arith}
-use Rattle.std.specs.Prelude.{Result, IfOk}
+use Rattle.std.proofs.Common.{◌≡◌, ◌⊎◌, inl, inr, ⊎_elim, ℕ, suc, ◌+◌, ◌<◌, ◌≤◌, List, [], ◌∷◌, ◌++◌, length, drop, Option, Some, None, refl, sym, ap, ◌∙◌, subst, arith, Result, IfOk}
 use Rattle.dispatch_node.proofs.Words.{MAX_LINE, MAX_LOG, AllByRecursion, drop-append_seam, take_all, Lacks, split_same, lacks_none, Mem, Click, click_line, IsClick, line_feed, ClickLine, at, placed, end_from, Follow, click_right, click_lacks, at_mem, at_own, within_end, lines_follow, lines_stand, lines_end, IfOk-weaker, behind, IsNext, Next, Line, Long, NodeFault, IsLineAt, TakenLine, Setting, IsLogOf, IsReadable}
 use Rattle.log_records.specs.declared.why.Why.TheVariants as why
 use Rattle.tail_reader.specs.declared.tail.Next.TheVariants.{End}

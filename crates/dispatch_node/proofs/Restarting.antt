@@ -1,6 +1,5 @@
 -- What a stop leaves of a dispatcher's disks, and its restart as an entry.
-use Rattle.std.proofs.Common.{◌≡◌, ◌⊎◌, inl, inr, ⊎_elim, ℕ, Bool, false, cond, not, List, Option, Some, None, refl, sym, ap, ◌∙◌, subst, arith}
-use Rattle.std.specs.Prelude.{option_map}
+use Rattle.std.proofs.Common.{◌≡◌, ◌⊎◌, inl, inr, ⊎_elim, ℕ, Bool, false, cond, not, List, Option, Some, None, refl, sym, ap, ◌∙◌, subst, arith, option_map}
 use Rattle.dispatch_node.proofs.Words.{has_push-right, has_without-self, Stop, IsOpened, Fold, folds_to, Note, land, record_of, row, written, closes, DispatcherKept, land_dispatcher, DispatchNote, landed, kept_as, takes_note, Holds, MayKeep, DispatcherState, SiteLeads, Parts, IsOpenAt, Doubts, StandsAt, StandsBy, dispatcher_rows, AreKeptPlaces, KeptOn, kept_or}
 use Rattle.gate_journal.specs.Records as of
 use Rattle.offset_journal.specs.Offsets as offsets

@@ -1,6 +1,5 @@
 -- Inputs and rows of a dispatcher over its disks.
-use Rattle.std.proofs.Common.{◌≡◌, ℕ, true, List, Option, Some, None, refl, sym, ap, subst, arith}
-use Rattle.std.specs.Prelude.{option_map}
+use Rattle.std.proofs.Common.{◌≡◌, ℕ, true, List, Option, Some, None, refl, sym, ap, subst, arith, option_map}
 use Rattle.dispatch_node.proofs.Words.{lines_follow, Bytes, Input, Start, Own, Tick, Setting, Note, Out, land, Reads, MayTake, row_of, DispatcherKept, DispatcherLive, land_dispatcher, told, out_of, DispatchCore, DispatchNote, takes_or_none, IsRowTaken, IsAsked, IsRecorded, Knows, landed_by, dispatcher_rows, IsLogOf}
 use Rattle.air_bus.specs.declared.entry.Input.TheVariants as bytes
 use Rattle.dispatch_node.proofs.Following.{GoesOn, turn_goes, start_goes, taken_row}

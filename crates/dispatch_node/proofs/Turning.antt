@@ -1,6 +1,5 @@
 -- A turn of a dispatcher over its disks, and its restart, as the states' entries.
-use Rattle.std.proofs.Common.{◌≡◌, ◌⊎◌, inl, inr, ⊎_elim, ℕ, ◌≤◌, true, List, [], length, Option, Some, None, refl, sym, ap, ◌∙◌, subst, arith}
-use Rattle.std.specs.Prelude.{is_some, option_map}
+use Rattle.std.proofs.Common.{◌≡◌, ◌⊎◌, inl, inr, ⊎_elim, ℕ, ◌≤◌, true, List, [], length, Option, Some, None, refl, sym, ap, ◌∙◌, subst, arith, is_some, option_map}
 use Rattle.dispatch_node.proofs.Words.{ends_idle, ends_done, MayTake, live_of, Bytes, Begin, End, Input, Setting, Note, Out, land, record_of, AreSpelled, Reads, IsJunk, State, Leads, row, written, closes, DispatcherKept, DispatcherLive, land_dispatcher, told, note_of, IsTurn, Stands, out_of, DispatchCore, Turn, DispatchNote, kept_as, takes_note, Holds, MayKeep, DispatcherState, SiteLeads, Knows, IsAsked, Parts, StandsAt, StandsBy, IsRecorded, IsTakenBy, landed_by, dispatcher_rows, IsLogOf, AreKeptPlaces, KeptOn, OnDisks, kept_or}
 use Rattle.offset_journal.specs.Offsets as offsets
 use Rattle.retry_log.specs.Pending as pending

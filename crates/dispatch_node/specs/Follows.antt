@@ -1,8 +1,7 @@
 -- What a dispatcher knows fits what its disks keep, so they take the note of each of its rows.
 use Rattle.std.specs.Prelude.{◌≡◌, ℕ, ◌<◌, ◌≤◌, true, false, List, [], ◌∷◌, Option, Some, None, ⊤}
-use Rattle.list_words.specs.Lists.{has}
-use Rattle.turn_defs.specs.Turns.{Note, Advance, Park, Settle}
-use Rattle.turn_defs.specs.Dispatcher.{DispatcherKept, DispatcherLive, Fresh, waits}
+use Rattle.dispatch_node.specs.Terms.{DispatcherKept, DispatcherLive, Fresh, Note, has, waits}
+use Rattle.turn_defs.specs.Turns.{Advance, Park, Settle}
 
 -- from the place a on the entries follow one another, none of them empty, and the last ends at or before z
 abbrev pub AreInOrder : ℕ → List Fresh → ℕ → Type 0

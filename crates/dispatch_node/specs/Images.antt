@@ -2,14 +2,9 @@
 use Rattle.std.proofs.Common.{◌≡◌, ◌⊎◌, inl, inr, ⊎_elim, ℕ, Bool, true, false, ◌&&◌, List, Option, Some, None, refl, sym, ap}
 use Rattle.std.specs.Prelude.{IsTrue}
 use Rattle.std.proofs.lemmas.Bool.{false≢true}
-use Rattle.gate_journal.specs.declared.journal.JournalState.TheVariants.{Ready}
+use Rattle.dispatch_node.specs.Terms.{Advance, DispatchNote, DispatcherKept, MayHold, Note, Ready, land, land_dispatcher, written}
 use Rattle.offset_journal.specs.Offsets as offsets
 use Rattle.retry_log.specs.Pending as pending
-use Rattle.turn_defs.specs.Turns.{Note, land}
-use Rattle.site_node.specs.States.{written, MayHold}
-use Rattle.turn_defs.specs.Dispatcher.{DispatcherKept, land_dispatcher}
-use Rattle.dispatch_core.specs.declared.turns.DispatchNote.{DispatchNote}
-use Rattle.dispatch_core.specs.declared.turns.DispatchNote.TheVariants.{Advance}
 use Rattle.dispatch_node.specs.Kept.{landed, kept_as}
 use Rattle.dispatch_node.specs.Node.{DispatcherState, Parts, StandsAt, StandsBy, dispatcher_rows}
 

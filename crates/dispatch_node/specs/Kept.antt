@@ -1,15 +1,9 @@
 -- What the two disks of a dispatcher keep, before and after a note.
 use Rattle.std.specs.Prelude.{◌≡◌, ◌<◌, ℕ, List, Bool, true, not, nat_lt, Option, Some, None}
-use Rattle.list_words.specs.Lists.{has}
+use Rattle.dispatch_node.specs.Terms.{Advance, DispatchNote, DispatcherKept, JournalState, Park, Ready, Settle, has, land_dispatcher, told}
 use Rattle.gate_journal.specs.Disk.{HasRoom}
-use Rattle.gate_journal.specs.declared.journal.JournalState.{JournalState}
-use Rattle.gate_journal.specs.declared.journal.JournalState.TheVariants.{Ready}
 use Rattle.offset_journal.specs.Offsets as offsets
 use Rattle.retry_log.specs.Pending as pending
-use Rattle.turn_defs.specs.Dispatcher.{DispatcherKept, land_dispatcher}
-use Rattle.dispatch_core.specs.Changes.{told}
-use Rattle.dispatch_core.specs.declared.turns.DispatchNote.{DispatchNote}
-use Rattle.dispatch_core.specs.declared.turns.DispatchNote.TheVariants.{Advance, Park, Settle}
 
 abbrev pub kept_as : ℕ → List ℕ → DispatcherKept
 kept_as offset pending = record { offset = offset; pending = pending }

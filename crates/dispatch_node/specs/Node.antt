@@ -1,19 +1,10 @@
 -- A dispatcher over its disks and the click log, beside the states that its entries lead through.
 use Rattle.std.specs.Prelude.{◌≡◌, ℕ, List, Bool, true, Option, Some, None, option_map}
-use Rattle.gate_journal.specs.declared.journal.JournalState.{JournalState}
+use Rattle.dispatch_node.specs.Terms.{AreSpelled, CanKeep, DispatchNote, DispatcherKept, DispatcherLive, Entry, JournalState, Leads, Note, Reads, Rows, Setting, Stands, State, dispatcher_start, dispatcher_turn, land_dispatcher, note_of, record_of, row, told}
 use Rattle.air_bus.specs.declared.entry.Input.{Input as Bytes}
-use Rattle.air_bus.specs.declared.entry.Entry.{Entry}
 use Rattle.turn_defs.specs.declared.node.Input.{Input}
 use Rattle.turn_defs.specs.declared.node.Input.TheVariants.{Start}
-use Rattle.turn_defs.specs.Setting.{Setting}
-use Rattle.turn_defs.specs.Turns.{Note}
-use Rattle.site_node.specs.Bytes.{record_of, AreSpelled, Reads}
-use Rattle.site_node.specs.States.{State, Rows, row, Leads}
-use Rattle.turn_defs.specs.Dispatcher.{DispatcherKept, DispatcherLive, dispatcher_start, dispatcher_turn, land_dispatcher}
-use Rattle.dispatch_core.specs.Changes.{told, note_of}
-use Rattle.dispatch_core.specs.Standing.{Stands, CanKeep}
 use Rattle.dispatch_core.specs.declared.dispatch.DispatchCore.{DispatchCore}
-use Rattle.dispatch_core.specs.declared.turns.DispatchNote.{DispatchNote}
 use Rattle.dispatch_core.specs.declared.turns.Turn.{Turn}
 use Rattle.dispatch_node.specs.Kept.{landed, takes_note, Holds, HasRoomFor, MayKeep}
 use Rattle.dispatch_node.specs.Places.{IsLogOf, AreKeptPlaces, AreLivePlaces}

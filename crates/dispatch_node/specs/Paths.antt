@@ -1,12 +1,11 @@
 -- Laws of the states that a dispatcher's entries lead through.
 use Rattle.std.proofs.Common.{◌≡◌, ◌≢◌, ℕ, Bool, Option, Some, refl}
-use Rattle.air_bus.specs.declared.entry.Entry.{Entry}
+use Rattle.dispatch_node.specs.Terms.{Entry, state_phase}
 use Rattle.air_bus.specs.declared.entry.Entry.TheVariants.{Begin}
 use Rattle.air_bus.specs.declared.entry.Input.{Input as Bytes}
 use Rattle.air_bus.specs.declared.entry.Phase.TheVariants.{Busy}
 use Rattle.air_bus.specs.Copies.{Copy}
 use Rattle.air_bus.specs.History.{next_input, phase_after}
-use Rattle.site_node.specs.States.{state_phase}
 use Rattle.site_node.specs.Paths as paths
 use Rattle.dispatch_node.specs.Node.{DispatcherState, SiteLeads, dispatcher_rows}
 

@@ -1,10 +1,8 @@
 -- The places of the click log that a dispatcher keeps and knows: of each it can read what stands there.
 use Rattle.std.specs.Prelude.{◌≡◌, ◌⊎◌, ℕ, ◌≤◌, true, List, length, Some}
-use Rattle.list_words.specs.Lists.{Each, has}
+use Rattle.dispatch_node.specs.Terms.{DispatcherKept, DispatcherLive, Each, Fresh, Setting, has}
 use Rattle.log_records.specs.declared.check.TheConstants.{MAX_LOG}
 use Rattle.log_records.specs.Lines.{ClickLine, at, HoldsLines, IsBoundary}
-use Rattle.turn_defs.specs.Setting.{Setting}
-use Rattle.turn_defs.specs.Dispatcher.{DispatcherKept, DispatcherLive, Fresh}
 
 -- the log was checked, and its lines are the setting's clicks
 pub record IsLogOf (log : List ℕ) (g : Setting) : Type 0 where

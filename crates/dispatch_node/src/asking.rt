@@ -1,12 +1,8 @@
 // What a turn takes, with what its node looks up for it.
 ghost use Rattle.std.specs.Prelude.{◌≡◌, Option, IfOk, IfErr, IsTrue};
-ghost use Rattle.outside.specs.Faults.{tallied};
+ghost use Rattle.dispatch_node.specs.Terms.{Carries, DispatcherKept, DispatcherLive, IsReadFault, Setting, Stands, Takes, is_read_fault, tallied};
 ghost use Rattle.turn_defs.specs.declared.node.Input.TheVariants as asked;
-ghost use Rattle.turn_defs.specs.Setting.{Setting};
-ghost use Rattle.turn_defs.specs.Dispatcher.{DispatcherKept, DispatcherLive};
 ghost use Rattle.dispatch_core.specs.Spelled.{IsTaken};
-ghost use Rattle.dispatch_core.specs.Standing.{Carries, Stands, Takes};
-ghost use Rattle.site_node.specs.Faults.{IsReadFault, is_read_fault};
 ghost use Rattle.dispatch_node.specs.Kept.{kept_as};
 ghost use Rattle.dispatch_node.specs.Node.{IsAsked, Knows};
 ghost use Rattle.dispatch_node.specs.Places.{AreLivePlaces, IsLogOf};

@@ -1,14 +1,10 @@
 // The click log, of which a line is read where it is needed.
 ghost use Rattle.std.specs.Prelude.{◌≡◌, ◌++◌, ◌∷◌, [], ℕ, List, All, Some, true, IfOk, IfErr, IfSome, OnOk, IsTrue};
-ghost use Rattle.outside.specs.Faults.{tallied};
+ghost use Rattle.dispatch_node.specs.Terms.{AreClicksAt, IsLineAt, IsReadFault, Setting, click_at, has, is_read_fault, tallied};
 ghost use Rattle.tail_reader.specs.Next.{IsNext};
 ghost use Rattle.log_records.specs.Line.{IsClick, click_line};
 ghost use Rattle.log_records.specs.declared.records.ClickRec.{ClickRec as Click};
-ghost use Rattle.list_words.specs.Lists.{has};
-ghost use Rattle.turn_defs.specs.Setting.{Setting};
-ghost use Rattle.dispatch_core.specs.Standing.{IsLineAt, click_at, AreClicksAt};
 ghost use Rattle.dispatch_node.specs.Places.{IsLogOf, IsReadable, StartsAt};
-ghost use Rattle.site_node.specs.Faults.{IsReadFault, is_read_fault};
 
 use dispatch_core::TakenLine;
 use log_records::{ClickRec, Why, read_click};

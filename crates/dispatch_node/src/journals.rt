@@ -1,17 +1,9 @@
 // The records of a dispatcher on its two disks.
 ghost use Rattle.std.specs.Prelude.{◌≡◌, ◌⊎◌, ◌≤◌, ℕ, List, Option, true, false, is_err, option_map, IfOk, IfErr, OnOk, OnErr, IsTrue};
-ghost use Rattle.outside.specs.Disk.{Throughout};
-ghost use Rattle.outside.specs.Faults.{Rose};
-ghost use Rattle.outside.specs.Plans.{MeetsPlan};
-ghost use Rattle.gate_journal.specs.declared.journal.JournalState.TheVariants.{Ready};
-ghost use Rattle.gate_journal.specs.Growth.{Continues};
+ghost use Rattle.dispatch_node.specs.Terms.{Continues, HasFailed, IsOfRestart, IsWhole, MeetsBoth, MeetsPlan, Note, Ready, Rose, Throughout, of_two, spare, told, was_shut_out};
 ghost use Rattle.gate_journal.specs.Opening.{IsOpened};
-ghost use Rattle.indexmap.specs.IndexSet.{spare};
 ghost use Rattle.offset_journal.specs.Offsets as offsets;
 ghost use Rattle.retry_log.specs.Pending as pending;
-ghost use Rattle.turn_defs.specs.Turns.{Note};
-ghost use Rattle.site_node.specs.Faults.{was_shut_out, HasFailed, IsOfRestart, IsWhole, MeetsBoth, of_two};
-ghost use Rattle.dispatch_core.specs.Changes.{told};
 ghost use Rattle.dispatch_node.specs.Kept.{kept_as, landed, takes_note, takes_or_none, HasRoomFor};
 ghost use Rattle.dispatch_node.specs.Node.{IsRecorded, IsTakenBy, IsRoomFor};
 

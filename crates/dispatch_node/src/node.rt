@@ -1,22 +1,11 @@
 // The dispatcher over its disks and the click log.
 ghost use Rattle.std.specs.Prelude.{◌≡◌, None, ◌⊎◌, ◌<◌, ◌≤◌, true, false, Option, List, ℕ, is_some, is_err, option_map, IsTrue, IfOk, IfErr, OnOk, OnErr, ◌+◌, ◌&&◌};
-ghost use Rattle.gate_journal.specs.declared.journal.JournalState.TheVariants.{Ready};
-ghost use Rattle.indexmap.specs.IndexSet.{spare};
-ghost use Rattle.outside.specs.Disk.{Throughout};
-ghost use Rattle.outside.specs.Faults.{Rose, tallied};
-ghost use Rattle.outside.specs.Plans.{MeetsPlan, AtMost};
-ghost use Rattle.gate_journal.specs.Growth.{Continues};
+ghost use Rattle.dispatch_node.specs.Terms.{AtMost, Continues, DispatcherKept, DispatcherLive, HasSameNumbers, IsReadFault, IsTurn, MeetsBoth, MeetsPlan, OfBoth, Ready, Rose, Setting, StandsAs, Throughout, dispatcher_at_rest, dispatcher_unfinished, dispatcher_wants, is_read_fault, of_two, out_of, spare, state_phase, tallied, told};
 ghost use Rattle.offset_journal.specs.Offsets as offsets;
 ghost use Rattle.retry_log.specs.Pending as pending;
-ghost use Rattle.turn_defs.specs.Setting.{Setting};
-ghost use Rattle.site_node.specs.Faults.{IsReadFault, is_read_fault, MeetsBoth, OfBoth, of_two};
-ghost use Rattle.dispatch_core.specs.Changes.{told};
-ghost use Rattle.turn_defs.specs.Dispatcher.{DispatcherKept, DispatcherLive, dispatcher_at_rest, dispatcher_unfinished, dispatcher_wants};
-ghost use Rattle.dispatch_core.specs.Standing.{HasSameNumbers, IsTurn, StandsAs, out_of};
 ghost use Rattle.dispatch_node.specs.Kept.{kept_as, takes_or_none};
 ghost use Rattle.dispatch_node.specs.Places.{AreKeptPlaces, IsLogOf};
 ghost use Rattle.dispatch_node.specs.Node.{IsAsked, IsReady, IsRoomFor, IsTakenBy, Knows, StandsAt, down_over, landed_by, DispatcherState, SiteLeads, says, never_spent};
-ghost use Rattle.site_node.specs.States.{state_phase};
 ghost use Rattle.dispatch_node.specs.Images.{KeptOn, kept_images, one_of};
 ghost use Rattle.dispatch_node.specs.Paths.{begins as begins_by, phase_led};
 

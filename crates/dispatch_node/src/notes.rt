@@ -1,7 +1,6 @@
 // Notes as the records that they are.
 ghost use Rattle.std.specs.Prelude.{◌≡◌, IfOk};
-ghost use Rattle.site_node.specs.Bytes.{record_of};
-ghost use Rattle.dispatch_core.specs.Changes.{told};
+ghost use Rattle.dispatch_node.specs.Terms.{record_of, told};
 
 use air_bus::Payload;
 use dispatch_core::DispatchNote;

@@ -7,6 +7,7 @@ ghost use Rattle.event_id.specs.EventId.{spell, id_cmp, IsId};
 use crate::EventId;
 
 /// No two ids have one text.
+#[tactic(auto, using(crate::proofs::Spelling::spell_same))]
 pub fn one_text()
     ensures { (x y : Id) → IsId x → IsId y → spell x ≡ spell y → x ≡ y }
 {}

@@ -23,6 +23,7 @@ impl EventId {
     }
 
     /// Writes the text of the id at the front of `buf`, and answers its length. Nothing is allocated.
+    #[tactic(auto, using(crate::proofs::Spelling::octet_short, crate::proofs::Spelling::pid_short, crate::proofs::Spelling::micros_short))]
     pub fn text_into(self, buf: &mut [u8; MAX_TEXT]) -> usize
         ensures len { result ≡ length (spell self) }
         ensures text { take result buf.new ≡ spell self }
@@ -55,6 +56,7 @@ pub fn parse(text: &[u8]) -> Result<EventId, BadId>
     fields(text).ok_or(BadId)
 }
 
+#[tactic(auto, using(crate::proofs::Spelling::after_address, crate::proofs::Spelling::spell_is, crate::proofs::Numerals::none_is_some, crate::proofs::Spelling::spell_joins, crate::proofs::Spelling::same_id, std::proofs::lemmas::Option::same_Some))]
 fn fields(text: &[u8]) -> Option<EventId>
     ensures found { IfSome result (λ id. IsId id × (text.now ≡ spell id)) }
     ensures only { (id : _) → IsId id → text.now ≡ spell id → result ≡ Some id }
@@ -69,6 +71,7 @@ fn fields(text: &[u8]) -> Option<EventId>
 }
 
 // The address that the text begins with, and what stands behind its colon.
+#[tactic(auto, using(crate::proofs::Spelling::behind_first, crate::proofs::Spelling::address_is, crate::proofs::Spelling::behind_second, crate::proofs::Spelling::behind_third, crate::proofs::Spelling::address_joins, crate::proofs::Spelling::address_of))]
 fn take_address(text: &[u8]) -> Option<(u32, &[u8])>
     ensures found { IfSome result (λ taken. (taken.0 < 2 ^ 32) × (text.now ≡ dotted taken.0 ++ colon ∷ taken.1.now)) }
     ensures only { (ip : ℕ) (rest : List ℕ) → ip < 2 ^ 32 → text.now ≡ dotted ip ++ colon ∷ rest
@@ -118,6 +121,7 @@ fn last_number(text: &[u8], limit: u64) -> Option<u64>
 
 // The number that the text begins with, in decimal without a sign or leading zeros, and what stands behind it. Behind
 // a zero more digits may stand.
+#[tactic(auto, using(crate::proofs::Numerals::no_number, crate::proofs::Numerals::number_begins))]
 fn take_number(text: &[u8], limit: u64) -> Option<(u64, &[u8])>
     ensures found { IfSome result (λ taken. (taken.0 ≤ limit) × (text.now ≡ decimal taken.0 ++ taken.1.now)) }
     ensures only { (n : ℕ) (rest : List ℕ) → n ≤ limit → BeginsWithNoDigit rest → text.now ≡ decimal n ++ rest

@@ -94,6 +94,7 @@ impl Index {
     }
 
     /// Whether a line with the id would be in order; then no line has the id. Logarithmic time.
+    #[tactic(auto, using(crate::proofs::Orders::admits, crate::proofs::Orders::admitted, crate::proofs::Marking::no_first))]
     pub(crate) fn is_next(&self, id: EventId) -> bool
         ensures order { (marks : List Seen) → Keeps self.now marks → result ≡ is_in_order (ids_of marks) id }
         ensures none { (marks : List Seen) → Keeps self.now marks → IsTrue result → first_of marks id ≡ None }
@@ -128,6 +129,7 @@ impl Index {
     }
 
     /// Where an in-order line with the id is to be looked for, if there may be one. Logarithmic time.
+    #[tactic(auto, using(crate::proofs::Segments::segment_none))]
     pub(crate) fn segment(&self, id: EventId) -> Option<Segment>
         ensures some { (marks : List Seen) (place : ℕ) → Keeps self.now marks → Falls place marks → IfSome result (λ s. IsSegment marks id s.start s.end) }
         ensures none { (marks : List Seen) → Keeps self.now marks → IfNone result (IsStray marks id) }

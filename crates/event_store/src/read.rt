@@ -82,6 +82,7 @@ pub fn next_id<L: LogFile>(tail: &mut Tail<L>, front: &[u8]) -> Result<Option<Ev
 }
 
 // The id of the line's record, if the line begins with the front and is one.
+#[tactic(auto, using(crate::proofs::Looking::told_record))]
 fn id_in(line: &[u8], front: &[u8]) -> Option<EventId>
     ensures { (read : Option Query) → ReadsAs line.now read → TellsId front.now read result }
 {

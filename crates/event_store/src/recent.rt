@@ -73,6 +73,7 @@ impl Recent {
 }
 
 // Puts the map's entries into the list, in their order and in place of its own; none where there is no memory for them.
+#[tactic(auto, using(crate::proofs::Recents::none_rises))]
 fn list(map: &BTreeMap<EventId, u64>, places: &mut Vec<(EventId, u64)>)
     ensures rises { IsStrictlySortedBy id_cmp (keys_of places.new.items) }
     ensures kept { (id : Id) → IfSome (lookup (is_at (id_cmp id)) places.new.items) (λ s. get id_cmp map.now id ≡ Some s) }

@@ -14,6 +14,7 @@ use tail_reader::Tail;
 
 /// Where the first record with the id begins among the lines up to the end, which is a line's end, if none begins before the
 /// start. Reads no line behind the one that it finds, but whole blocks.
+#[tactic(auto, using(crate::proofs::Firsts::none_in_front))]
 pub(crate) fn scan<L: LogFile>(
     tail: &mut Tail<L>,
     start: u64,

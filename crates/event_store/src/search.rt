@@ -23,6 +23,7 @@ use tail_reader::Tail;
 const AHEAD: u32 = 32;
 
 /// The first record with the id among the lines that end at or before the place. The tail stands anywhere afterwards.
+#[tactic(auto, using(crate::proofs::Firsts::nowhere))]
 pub(crate) fn look<L: LogFile>(
     alloc: Global,
     tail: &mut Tail<L>,

@@ -136,6 +136,7 @@ impl<L: LogFile> EventStore<L> {
     /// its process has none; one line is read where its place is at hand. Else it reads again the lines between two entries
     /// of the process, found in logarithmic time. Of the line that it finds so, and of the lines behind it, up to 32 in all, it
     /// keeps the places at hand, each in logarithmic time: who asks nearly in the log's order finds most of them there.
+    #[tactic(auto, using(crate::proofs::Holding::held_at_hand))]
     pub fn lookup(&mut self, id: EventId) -> Result<Lookup, LookFault>
         ensures found { IsTrue L.tells → (lines : List (Option Query)) → AreRead (L.bytes self.old.tail.log) self.old.tail.place lines → IfOk result (IsLookup lines id) }
         ensures spelled { IfOk result IsSpelled }

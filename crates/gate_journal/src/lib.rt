@@ -23,4 +23,4 @@ pub use payloads::{Payloads, Walk};
 pub use reading::JournalFault;
 pub use record::{Appends, Record};
 pub use records::RecordJournal;
-pub use wire_core::{Bytes as Payload, Origin};
+pub use wire_core::Origin;

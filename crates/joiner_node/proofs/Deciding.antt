@@ -1,20 +1,14 @@
 -- What a joiner is given, as the core takes it.
 use Rattle.std.proofs.Common.{◌≡◌, ℕ, Bool, true, false, [], Option, Some, None, subst, arith}
+use Rattle.joiner_node.proofs.Words.{Answers, Carries, Deliver, Input, IsFirst, IsReady, JoinerCore, JoinerKept, JoinerLive, Own, Serves, Setting, Stands, Start, Tells, Tick, row}
 use Rattle.log_records.specs.declared.records.ClickRec.{ClickRec as Click}
 use Rattle.turn_defs.specs.declared.packet.Packet.TheVariants as packet
-use Rattle.turn_defs.specs.declared.node.Input.{Input}
-use Rattle.turn_defs.specs.declared.node.Input.TheVariants.{Start, Own, Tick, Deliver}
-use Rattle.turn_defs.specs.Setting.{Setting}
-use Rattle.turn_defs.specs.Joiner.{JoinerKept, JoinerLive}
 use Rattle.site_node.specs.States.{Fits as MayGet}
-use Rattle.joiner_core.specs.Standing.{Serves, Stands, Carries, Tells, IsReady, Answers, row}
 use Rattle.joiner_core.specs.declared.input.Looked.{Looked}
 use Rattle.joiner_core.specs.declared.input.Looked.TheVariants.{Found, Lines}
 use Rattle.joiner_core.specs.declared.input.JoinerInput.{JoinerInput}
 use Rattle.joiner_core.specs.declared.input.JoinerInput.TheVariants as asked
-use Rattle.joiner_core.specs.declared.node_core.JoinerCore.{JoinerCore}
 use Rattle.joiner_core.specs.declared.turn.Turn.{Turn}
-use Rattle.joiner_node.specs.Read.{IsFirst}
 use Rattle.joiner_node.specs.Joining.{joiner_row, Knows, GoesOn}
 
 -- what the log says of the query

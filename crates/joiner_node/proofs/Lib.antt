@@ -4,3 +4,4 @@ pub mod Deciding
 pub mod Turning
 pub mod Spending
 pub mod Writing
+pub mod Words

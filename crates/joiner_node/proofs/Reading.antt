@@ -4,6 +4,7 @@ use Rattle.std.specs.Option.{option_or}
 use Rattle.std.specs.List.{AllByRecursion}
 use Rattle.std.proofs.lemmas.List.{map-append, drop-drop, drop_at, take_all}
 use Rattle.std.proofs.lemmas.List.Folds.{find-append}
+use Rattle.joiner_node.proofs.Words.{HasRead}
 use Rattle.list_words.specs.Bytes.{Lacks}
 use Rattle.list_words.proofs.Splits.{split_same, lacks_none}
 use Rattle.event_id.specs.declared.id.EventId.{EventId}
@@ -18,7 +19,6 @@ use Rattle.log_records.proofs.Reading.{one_more, query_lacks}
 use Rattle.tail_reader.specs.Buffered.{behind}
 use Rattle.event_store.specs.Found.{records, found}
 use Rattle.event_store.specs.Read.{ReadsAs, ReadsNext, ReadsLines, AreRead, IsAtEnd}
-use Rattle.joiner_node.specs.Read.{HasRead}
 
 abbrev pub given : List Query → List (Option Query)
 given qs = map (λ q. Some q) qs

@@ -1,23 +1,17 @@
 -- What a joiner's disks hold after a stop.
-use Rattle.std.proofs.Common.{◌≡◌, ◌⊎◌, inl, inr, ⊎_elim, ℕ, ◌+◌, Bool, true, false, List, [], ◌∷◌, length, map, Option, Some, None, refl, sym, ap, ◌∙◌, arith, length-append}
-use Rattle.std.specs.Prelude.{All, IsTrue, Result, Ok, if◌then◌else◌}
+use Rattle.std.proofs.Common.{◌≡◌, ◌⊎◌, inl, inr, ⊎_elim, ℕ, ◌+◌, Bool, true, false, List, [], ◌∷◌, length, map, Option, Some, None, refl, sym, ap, ◌∙◌, arith, length-append, if◌then◌else◌}
 use Rattle.std.proofs.lemmas.Bool.Decides.{nat_tests}
 use Rattle.std.proofs.lemmas.List.Elements.{All-head, All-tail}
+use Rattle.joiner_node.proofs.Words.{All, AreKept, Doubt, EpochOr, Holds, InDoubt, IsCount, IsFound, IsTrue, IsUndamaged, JoinerKept, JoinerNote, Ok, PairsOr, Result, counted, has_more, record_of, with_note}
 use Rattle.gate_journal.specs.Gate.{gate_rule}
 use Rattle.gate_journal.specs.Spelled.{never_damaged}
 use Rattle.gate_journal.specs.declared.reading.JournalFault.{JournalFault}
 use Rattle.gate_journal.specs.declared.reading.JournalFault.TheVariants.{Damaged}
 use Rattle.epoch_journal.specs.Epochs as epochs
 use Rattle.turn_defs.specs.declared.pair.PairRec.{PairRec}
-use Rattle.output_log.specs.Pairs.{record_of}
 use Rattle.turn_defs.specs.Spellings.{IsPair}
 use Rattle.output_log.specs.Pairs as pairs
-use Rattle.turn_defs.specs.Joiner.{JoinerKept}
-use Rattle.joiner_core.specs.declared.turn.JoinerNote.{JoinerNote}
 use Rattle.joiner_core.specs.declared.turn.JoinerNote.TheVariants as notes
-use Rattle.joiner_node.specs.Disks.{EpochOr, PairsOr, AreKept, Holds, with_note, InDoubt, IsFound, counted, IsCount, has_more}
-use Rattle.joiner_node.specs.declared.disks.Doubt.{Doubt}
-use Rattle.site_node.specs.Faults.{IsUndamaged}
 
 -- ---- what is read
 

@@ -1,15 +1,11 @@
 -- A joiner in its last epoch.
-use Rattle.std.proofs.Common.{◌≡◌, ℕ, ◌==◌, Option, Some, None, refl, sym, ap, ◌∙◌, arith}
+use Rattle.std.proofs.Common.{◌≡◌, ℕ, ◌==◌, Option, Some, None, refl, sym, ap, ◌∙◌, arith, if◌then◌else◌}
 use Rattle.ballot_core.specs.declared.TheConstants.{LAST_EPOCH}
-use Rattle.std.specs.Prelude.{if◌then◌else◌}
 use Rattle.std.proofs.lemmas.Bool.Decides.{nat_tests}
+use Rattle.joiner_node.proofs.Words.{Input, JoinerState, Setting, Start, spends_of}
 use Rattle.air_bus.specs.declared.entry.Input.{Input as Bytes}
 use Rattle.air_bus.specs.declared.entry.Input.TheVariants as bytes
-use Rattle.turn_defs.specs.declared.node.Input.{Input}
-use Rattle.turn_defs.specs.declared.node.Input.TheVariants.{Start}
-use Rattle.turn_defs.specs.Setting.{Setting}
 use Rattle.site_node.specs.Bytes.{Reads, IsJunk}
-use Rattle.joiner_node.specs.Node.{JoinerState, spends_of}
 
 start_bytes : (g : Setting) (b : Bytes) (i : Input) → Reads g b i → i ≡ Start → b ≡ bytes.Start
 start_bytes g bytes.Start i reads is = refl

@@ -1,28 +1,16 @@
 -- A turn of a joiner over its disks, and its restart, as the states' entries.
 use Rattle.std.proofs.Common.{◌≡◌, inl, inr, ⊎_elim, ℕ, suc, ◌≤◌, Bool, true, false, ◌&&◌, List, [], length, Option, Some, None, refl, sym, ap, ◌∙◌, subst, arith}
-use Rattle.std.specs.Prelude.{is_some, option_map, IsTrue, Result, Ok, Err, IfOk, IfErr, OnOk, OnErr, IsErrAnd, ⊤}
+use Rattle.joiner_node.proofs.Words.{Answers, AreInDoubt, Doubt, Err, HasRead, Holds, IfErr, IfOk, Input, IsAbove, IsErrAnd, IsFound, IsNext, IsRow, IsSame, IsTrue, JoinerCore, JoinerKept, JoinerLive, JoinerNote, JoinerState, LeadsTo, MayHave, Ok, OnErr, OnOk, Parts, Result, Serves, Setting, Stands, StandsAt, StandsBy, bytes_of, ends_done, ends_idle, is_some, land_joiner, none_of, note_of, option_map, recorded_as, row_at, with_note, ⊤}
 use Rattle.air_bus.specs.declared.entry.Input.{Input as Bytes}
 use Rattle.air_bus.specs.declared.entry.Entry.TheVariants.{Begin, End, Stop}
 use Rattle.turn_defs.specs.declared.packet.Packet.TheVariants as packet
-use Rattle.turn_defs.specs.declared.node.Input.{Input}
-use Rattle.turn_defs.specs.Setting.{Setting}
 use Rattle.turn_defs.specs.Turns.{Note, Epoch, Out, land}
 use Rattle.site_node.specs.Bytes.{record_of, AreSpelled, Reads, IsJunk}
-use Rattle.site_node.proofs.Turns.{ends_done, ends_idle, none_of}
 use Rattle.site_node.specs.States.{Leads, row, written, closes, opens}
-use Rattle.turn_defs.specs.Joiner.{JoinerKept, JoinerLive, land_joiner}
-use Rattle.joiner_core.specs.Standing.{Serves, Stands, IsSame, Answers, note_of}
 use Rattle.joiner_core.specs.declared.turn.Turn.{Turn}
-use Rattle.joiner_core.specs.declared.turn.JoinerNote.{JoinerNote}
-use Rattle.joiner_core.specs.declared.node_core.JoinerCore.{JoinerCore}
-use Rattle.joiner_node.specs.Read.{HasRead}
-use Rattle.joiner_node.specs.Disks.{MayHave, Holds, IsNext, with_note, bytes_of, AreInDoubt, IsFound}
-use Rattle.joiner_node.specs.Records.{recorded_as, IsAbove}
 use Rattle.joiner_node.specs.declared.records.Record.{Record}
 use Rattle.joiner_node.specs.Joining.{joiner_rows, joiner_row, Knows}
-use Rattle.joiner_node.specs.declared.disks.Doubt.{Doubt}
 use Rattle.joiner_node.specs.declared.node.ReadyTurn.{ReadyTurn}
-use Rattle.joiner_node.specs.Node.{JoinerState, LeadsTo, row_at, Parts, StandsBy, StandsAt, IsRow}
 
 -- ---- a joiner with no record in doubt
 

@@ -1,6 +1,6 @@
 -- One pair more on the disk.
 use Rattle.std.proofs.Common.{◌≡◌, inl, ℕ, ◌+◌, ◌-◌, ◌^◌, min, List, [], ◌∷◌, ◌++◌, length, Option, Some, sym, ap, ◌∙◌, subst, arith, length-append}
-use Rattle.std.specs.Prelude.{Result, Ok, Err, OnOk}
+use Rattle.joiner_node.proofs.Words.{AreKept, Err, Holds, JoinerKept, JoinerNote, Keeps, KeepsOr, Ok, OnOk, Result, record_of, recorded_as, same_pairs, spells, with_note}
 use Rattle.outside.proofs.Moments.{weaker}
 use Rattle.outside.specs.Disk.{Only, Throughout}
 use Rattle.gate_journal.specs.Gate.{records, StandsFor, IsOldOrNew}
@@ -8,13 +8,7 @@ use Rattle.gate_journal.specs.Growth.{Continues}
 use Rattle.gate_journal.specs.Spelled.{comes_next}
 use Rattle.turn_defs.specs.declared.pair.PairRec.{PairRec}
 use Rattle.turn_defs.specs.Spellings.{IsPair}
-use Rattle.output_log.specs.Pairs.{record_of, spells, Keeps, KeepsOr}
-use Rattle.turn_defs.specs.Joiner.{JoinerKept}
-use Rattle.joiner_core.specs.declared.turn.JoinerNote.{JoinerNote}
 use Rattle.joiner_core.specs.declared.turn.JoinerNote.TheVariants as notes
-use Rattle.joiner_node.specs.Disks.{AreKept, Holds, with_note}
-use Rattle.joiner_node.specs.Records.{recorded_as}
-use Rattle.joiner_node.specs.States.{same_pairs}
 use Rattle.joiner_node.specs.declared.records.Record.TheVariants as written
 
 -- what is so of each image twice over is so both times

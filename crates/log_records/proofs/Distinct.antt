@@ -1,11 +1,9 @@
 -- The map of clicks by their ids, whose values are the distinct clicks.
 use Rattle.std.proofs.Common.{◌≡◌, List, [], ◌∷◌, map, sym, ◌∙◌}
 use Rattle.std.specs.FinMap as finite
-use Rattle.std.proofs.lemmas.List.{nil_from_length}
+use Rattle.log_records.proofs.Words.{ClickRec, EventId, nil_from_length}
 use Rattle.event_id.proofs.Order.{ids_total}
-use Rattle.event_id.specs.declared.id.EventId.{EventId}
 use Rattle.event_id.specs.EventId.{id_cmp}
-use Rattle.log_records.specs.declared.records.ClickRec.{ClickRec}
 
 abbrev pub made : List ClickRec → List (EventId × ClickRec)
 made cs = finite.entries (finite.from_entries {R = id_cmp} (map (λ c. (c.id, c)) cs))

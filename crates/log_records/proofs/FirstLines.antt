@@ -1,15 +1,9 @@
 -- The map of first lines, one line more.
 use Rattle.std.proofs.Common.{◌≡◌, ◌≢◌, ◌⊎◌, inl, inr, ℕ, true, false, List, [], ◌∷◌, ◌++◌, Some, Contains, unwrap_or, sym, ap, subst, ◌∙◌, arith}
 use Rattle.std.specs.Prelude.{Option}
-use Rattle.std.proofs.lemmas.Bool.{cases_Bool}
-use Rattle.std.proofs.lemmas.List.Elements.{Contains-push_cases, Contains-push, Contains-append_left}
-use Rattle.event_id.specs.declared.id.EventId.{EventId}
+use Rattle.log_records.proofs.Words.{AfterWhy, Contains-append_left, Contains-push, Contains-push_cases, EventId, Keeps, OrMemory, Seen, Why, cases_Bool, is_at, line_at}
 use Rattle.list_words.proofs.Lists.{some_same}
-use Rattle.log_records.specs.declared.why.Why.{Why}
 use Rattle.log_records.specs.declared.why.Why.TheVariants as why
-use Rattle.log_records.specs.Line.{OrMemory}
-use Rattle.log_records.specs.Check.{AfterWhy}
-use Rattle.log_records.specs.Seen.{Seen, line_at, is_at, Keeps}
 
 -- ---- ids that are one
 

@@ -2,14 +2,9 @@
 use Rattle.std.proofs.Common.{◌≡◌, ◌⊎◌, inl, inr, ℕ, ◌+◌, true, false, Bool, Option, Some, None, List, [], ◌∷◌, ◌++◌, length, map, Contains, get_or, unwrap_or, refl, sym, ap, subst, ◌∙◌, arith}
 use Rattle.std.specs.Prelude.{if◌then◌else◌}
 use Rattle.std.specs.Option.{option_or}
-use Rattle.std.proofs.lemmas.Bool.{cases_Bool}
 use Rattle.std.proofs.lemmas.Bool.Decides.{nat_tests}
 use Rattle.std.proofs.lemmas.Option.{none-some}
-use Rattle.std.proofs.lemmas.List.Elements.{Contains-append_cases}
-use Rattle.event_id.specs.declared.id.EventId.{EventId}
-use Rattle.std.proofs.lemmas.List.{length-append}
-use Rattle.log_records.specs.Log.{line_feed, whole}
-use Rattle.log_records.specs.Seen.{is_at}
+use Rattle.log_records.proofs.Words.{Contains-append_cases, EventId, cases_Bool, is_at, length-append, line_feed, whole}
 use Rattle.log_records.proofs.FirstLines.{id_same}
 use Rattle.log_records.specs.FirstPlaces.{Places, place_at, first_place, Keeps}
 

@@ -1,19 +1,11 @@
 -- Lines and their parts.
 use Rattle.std.proofs.Common.{◌≡◌, ℕ, ◌+◌, ◌≤◌, inl, inr, List, [], ◌∷◌, ◌++◌, length, Result, Ok, Err, Contains, refl, sym, ap, subst, ◌∙◌, append_assoc, arith}
 use Rattle.std.specs.Result.{MatchResult, IfOk, IfErr}
-use Rattle.std.proofs.lemmas.List.{take_at, drop_at, get_or_at, length-append}
-use Rattle.event_id.specs.declared.id.EventId.{EventId}
-use Rattle.list_words.specs.Bytes.{Lacks}
+use Rattle.log_records.proofs.Words.{AreClickParts, AreQueryParts, ClickRec, ClickWhy, EventId, IsClick, IsIdText, IsQuery, Lacks, OrMemory, QueryRec, QueryWhy, TextWhy, Why, click_line, drop_at, get_or_at, head, length-append, length-spell-le, position_at, query_line, space, spell_lacks, spell_same, split_same, tail, take_at}
 use Rattle.event_id.specs.EventId.{spell, IsId}
-use Rattle.list_words.proofs.Splits.{position_at, split_same}
-use Rattle.event_id.proofs.Spelling.{spell_same, spell_lacks, length-spell-le}
 use Rattle.log_records.specs.declared.lines.TheConstants.{MAX_LINE}
-use Rattle.log_records.specs.declared.records.QueryRec.{QueryRec}
-use Rattle.log_records.specs.declared.records.ClickRec.{ClickRec}
-use Rattle.log_records.specs.declared.why.Why.{Why}
 use Rattle.log_records.specs.declared.why.Why.TheVariants as why
 use Rattle.log_records.specs.Text.{IsText}
-use Rattle.log_records.specs.Line.{space, query_line, click_line, IsQuery, IsClick, head, tail, IsIdText, AreQueryParts, AreClickParts, TextWhy, QueryWhy, ClickWhy, OrMemory}
 
 pub head_is : (front rest : List ℕ) → Lacks space front → head (front ++ space ∷ rest) ≡ front
 head_is front rest h = rw (position_at space front rest h) (take_at front (space ∷ rest) (length front) refl)

@@ -7,3 +7,4 @@ pub mod LogWalk
 pub mod WholeLogs
 pub mod FirstPlaces
 pub mod Distinct
+pub mod Words

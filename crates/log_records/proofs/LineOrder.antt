@@ -1,6 +1,6 @@
 -- Lemmas on the lines of a log, which follow one another.
 use Rattle.std.proofs.Common.{◌≡◌, ◌⊎◌, ℕ, ◌<◌, ◌≤◌, List, [], ◌∷◌, Some, arith}
-use Rattle.std.proofs.lemmas.Bool.{eq-eqb, ne_eqb}
+use Rattle.log_records.proofs.Words.{eq-eqb, ne_eqb}
 use Rattle.list_words.specs.Lists.{Mem}
 use Rattle.log_records.specs.Lines.{ClickLine, at, end_from, Follow}
 use Rattle.list_words.proofs.Lists.{none_some}

@@ -1,17 +1,9 @@
 -- The check of a log, line by line.
 use Rattle.std.proofs.Common.{◌≡◌, ◌⊎◌, inl, inr, ℕ, ◌+◌, ◌-◌, ◌<◌, ◌≤◌, List, [], ◌∷◌, ◌++◌, length, map, refl, ap, ◌∙◌, arith}
-use Rattle.std.specs.List.{AllByRecursion}
-use Rattle.std.proofs.lemmas.List.{length-append}
-use Rattle.list_words.specs.Bytes.{Lacks}
-use Rattle.event_id.specs.declared.id.EventId.{EventId}
-use Rattle.log_records.specs.declared.why.Why.{Why}
+use Rattle.log_records.proofs.Words.{AfterWhy, AllByRecursion, AreRecords, EventId, IsLog, Keeps, Lacks, OrMemory, Refuses, Seen, Why, length-append, line_feed, whole}
 use Rattle.log_records.specs.declared.why.Why.TheVariants as why
 use Rattle.log_records.specs.declared.check.BadLine.{BadLine}
 use Rattle.log_records.specs.declared.check.TheConstants.{MAX_LOG}
-use Rattle.log_records.specs.Line.{OrMemory}
-use Rattle.log_records.specs.Log.{line_feed, whole, AreRecords}
-use Rattle.log_records.specs.Check.{IsLog, AfterWhy, Refuses}
-use Rattle.log_records.specs.Seen.{Seen, Keeps}
 use Rattle.log_records.proofs.FirstLines.{keeps_one}
 
 module _ {R : Type 0} (line_of : R → List ℕ) (IsRecord : R → Type 0) (id_of : R → EventId) (LineWhy : List ℕ → Why → Type 0) where

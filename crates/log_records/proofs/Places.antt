@@ -1,15 +1,9 @@
 -- Longer logs, and the places of click lines.
 use Rattle.std.proofs.Common.{◌≡◌, ℕ, suc, ◌+◌, inl, inr, List, [], ◌∷◌, ◌++◌, length, map, refl, sym, ap, subst, ◌∙◌, append_assoc, arith}
-use Rattle.std.proofs.lemmas.List.{length-append}
 use Rattle.std.specs.Prelude.{Contains}
-use Rattle.std.specs.List.{AllByRecursion}
-use Rattle.list_words.specs.Bytes.{Lacks}
-use Rattle.list_words.proofs.Splits.{split_same, lacks_none}
+use Rattle.log_records.proofs.Words.{AllByRecursion, ClickRec, HasLines, IsClick, IsQuery, Lacks, click_line, lacks_none, length-append, line_feed, query_line, split_same, whole}
 use Rattle.list_words.specs.Lists.{Mem, Begins}
-use Rattle.log_records.specs.declared.records.ClickRec.{ClickRec}
-use Rattle.log_records.specs.Line.{query_line, click_line, IsQuery, IsClick}
 use Rattle.log_records.proofs.Grammar.{query_same, click_same}
-use Rattle.log_records.specs.Log.{line_feed, whole, HasLines}
 use Rattle.log_records.specs.Lines.{ClickLine, placed, end_from, Follow, QueriesBegin, LinesBegin, LinesFollow, IsInLog, LinesStand, LinesEnd}
 use Rattle.log_records.proofs.Reading.{one_more, query_lacks, click_lacks}
 

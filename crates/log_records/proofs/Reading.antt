@@ -1,16 +1,8 @@
 -- A log holds the records of one list.
 use Rattle.std.proofs.Common.{◌≡◌, ℕ, List, [], ◌∷◌, ◌++◌, map, refl, sym, subst, ◌∙◌, append_assoc, arith}
-use Rattle.std.specs.List.{AllByRecursion}
-use Rattle.std.proofs.lemmas.List.Elements.{recursion_from_All}
-use Rattle.list_words.specs.Bytes.{Lacks}
-use Rattle.list_words.proofs.Splits.{split_same, lacks_none, lacks_append}
-use Rattle.event_id.proofs.Spelling.{spell_lacks}
-use Rattle.log_records.specs.declared.records.QueryRec.{QueryRec}
-use Rattle.log_records.specs.declared.records.ClickRec.{ClickRec}
+use Rattle.log_records.proofs.Words.{AllByRecursion, ClickRec, HasLines, HoldsClicks, HoldsQueries, IsClick, IsQuery, Lacks, QueryRec, click_line, lacks_append, lacks_none, line_feed, query_line, recursion_from_All, spell_lacks, split_same, whole}
 use Rattle.log_records.specs.Text.{IsText, IsPrintable}
-use Rattle.log_records.specs.Line.{query_line, click_line, IsQuery, IsClick}
 use Rattle.log_records.proofs.Grammar.{query_same, click_same}
-use Rattle.log_records.specs.Log.{line_feed, whole, HasLines, HoldsQueries, HoldsClicks}
 
 -- the first line, and the log behind it
 pub one_more : (line : List ℕ) (lines : List (List ℕ)) (rest : List ℕ) → whole (line ∷ lines) ++ rest ≡ line ++ line_feed ∷ (whole lines ++ rest)

@@ -1,21 +1,10 @@
 -- What a check of either kind says of a log of queries and of one of clicks.
 use Rattle.std.proofs.Common.{◌≡◌, ◌⊎◌, inl, inr, ℕ, ◌≤◌, List, [], ◌∷◌, ◌++◌, length, map, Contains, Result, refl, sym, ap, subst, ◌∙◌, arith}
 use Rattle.std.specs.Prelude.{IfOk, IfErr, MatchResult}
-use Rattle.std.specs.List.{AllByRecursion}
-use Rattle.std.proofs.lemmas.List.{length-append}
-use Rattle.std.proofs.lemmas.List.Elements.{All-from_recursion, All-contains, Contains-append_left, Contains-append_right}
-use Rattle.list_words.specs.Bytes.{Lacks}
-use Rattle.list_words.proofs.Splits.{split_same, lacks_none}
-use Rattle.event_id.specs.declared.id.EventId.{EventId}
-use Rattle.log_records.specs.declared.records.QueryRec.{QueryRec}
-use Rattle.log_records.specs.declared.records.ClickRec.{ClickRec}
-use Rattle.log_records.specs.declared.why.Why.{Why}
+use Rattle.log_records.proofs.Words.{AfterWhy, All-contains, All-from_recursion, AllByRecursion, ClickRec, ClickWhy, Contains-append_left, Contains-append_right, EventId, Holds, IsClick, IsClickLog, IsLog, IsQuery, IsQueryLog, Lacks, NextWhy, QueryRec, QueryWhy, Refuses, RefusesClick, RefusesQuery, Why, click_line, lacks_none, length-append, line_feed, query_line, split_same, whole}
 use Rattle.log_records.specs.declared.why.Why.TheVariants as why
 use Rattle.log_records.specs.declared.check.BadLine.{BadLine}
 use Rattle.log_records.specs.declared.check.TheConstants.{MAX_LOG}
-use Rattle.log_records.specs.Line.{query_line, click_line, IsQuery, IsClick, QueryWhy, ClickWhy}
-use Rattle.log_records.specs.Log.{line_feed, whole, Holds}
-use Rattle.log_records.specs.Check.{IsLog, AfterWhy, NextWhy, Refuses, IsQueryLog, IsClickLog, RefusesQuery, RefusesClick}
 use Rattle.log_records.proofs.Grammar.{query_same, click_same, query_right, click_right}
 use Rattle.log_records.proofs.Reading.{one_more, query_lacks, click_lacks}
 

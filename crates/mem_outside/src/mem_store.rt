@@ -34,6 +34,7 @@ impl MemStore {
 
     /// Takes out the stops that are still planned: no later call of a disk that it keeps or makes anew fails. Linear in the disks
     /// that it keeps; it allocates nothing.
+    #[tactic(auto, using(crate::proofs::Calming::calm_stops, crate::proofs::Calming::calm_images, crate::proofs::Calming::calm_made))]
     pub fn calm(&mut self)
         ensures stops { (name : DiskName) (call : ℕ) → stops_in self.new.stops.items name (disk_of self.new.kept.items name) call ≡ false }
         ensures images { (name : DiskName) (c : List ℕ) → ImageIn (disk_of self.new.kept.items name) c → ImageIn (disk_of self.old.kept.items name) c }
@@ -60,6 +61,7 @@ fn is_same(a: DiskName, b: DiskName) -> bool
 }
 
 // Takes the stops of each disk out.
+#[tactic(auto, using(crate::proofs::Calming::first_all))]
 fn calm_all(kept: &mut Vec<Kept>)
     ensures calmed { AreCalmed kept.old.items kept.new.items }
     ensures room { spare kept.old ≤ spare kept.new }

@@ -3,7 +3,6 @@ ghost use Rattle.std.specs.Prelude.{◌≡◌, Some, IfOk, IfSome, IfNone};
 ghost use Rattle.output_log.specs.Pairs.{record_of, IsOther};
 ghost use Rattle.turn_defs.specs.Spellings.{IsPair};
 
-use gate_journal::Payload;
 use log_records::{ClickRec, QueryRec};
 use packet_codec::Field;
 use packet_codec::fields::{Stop, read_three};
@@ -23,7 +22,7 @@ const WITHOUT_TEXTS: usize = 65;
 
 /// The record of a pair as it is written to a log: the byte 06, the click, the query and the token. One allocation, of its
 /// length.
-pub fn pair_frame(alloc: Global, pair: &PairRec) -> Result<Payload, AllocError>
+pub fn pair_frame(alloc: Global, pair: &PairRec) -> Result<Bytes, AllocError>
     requires { IsPair pair.now }
     ensures { IfOk result (λ frame. frame ≡ record_of pair.now) }
 {

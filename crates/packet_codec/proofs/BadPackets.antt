@@ -1,12 +1,9 @@
 -- Where bytes stop being the front of a packet's spelling.
 use Rattle.std.proofs.Common.{◌≡◌, ⊎_elim, ℕ, ◌+◌, ◌-◌, ◌<◌, ◌≤◌, List, [], ◌++◌, length, take, sym, ap, ◌∙◌, subst, append-nil, append_assoc, length-append, arith}
-use Rattle.std.proofs.lemmas.List.{length-take-le}
 use Rattle.std.proofs.Math.Seq.{take-append-add, take-append_seam}
 use Rattle.std.proofs.lemmas.Bool.{cases_lt}
-use Rattle.packet_codec.specs.Bad.{Reaches}
-use Rattle.packet_codec.specs.Stops.{IsBadBefore}
+use Rattle.packet_codec.proofs.Words.{IsBadBefore, IsPacket, Reaches, length-take-le, packet}
 use Rattle.turn_defs.specs.declared.packet.Packet.{Packet}
-use Rattle.turn_defs.specs.Packets.{packet, IsPacket}
 use Rattle.packet_codec.specs.Spelled.{Packets}
 use Rattle.packet_codec.specs.Refused.{IsBadPacket}
 use Rattle.packet_codec.proofs.PacketParts.{packet_apart}

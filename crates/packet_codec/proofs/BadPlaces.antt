@@ -1,14 +1,10 @@
 -- The first bad byte of a spelling made of parts.
 use Rattle.std.proofs.Common.{◌≡◌, ⊎_elim, ℕ, ◌+◌, ◌-◌, ◌<◌, ◌≤◌, List, ◌++◌, length, take, drop, get_or, refl, sym, ap, ◌∙◌, subst, append_assoc, arith}
 use Rattle.std.specs.Prelude.{replicate}
-use Rattle.std.proofs.lemmas.List.{length-append, length-take-le, length-replicate, get_or-replicate, get_or-take, take-append-drop, take_at, drop_at, get_or-append_right, get_or_append_left}
 use Rattle.std.proofs.Math.Seq.{take-append-add}
 use Rattle.std.proofs.lemmas.Bool.{cases_lt}
-use Rattle.packet_codec.specs.Bad.{Reaches, IsBadAt}
-use Rattle.packet_codec.specs.Cells.{Cells}
 use Rattle.std.specs.Prelude.{Result, IfErr, IsErrAnd}
-use Rattle.packet_codec.specs.declared.fields.stop.Stop.{Stop}
-use Rattle.packet_codec.specs.Stops.{IsBadBefore, Stops}
+use Rattle.packet_codec.proofs.Words.{Cells, IsBadAt, IsBadBefore, Reaches, Stop, Stops, drop_at, get_or-append_right, get_or-replicate, get_or-take, get_or_append_left, length-append, length-replicate, length-take-le, take-append-drop, take_at}
 
 -- fronts of two equal lists
 pub front_same : (a b s t : List ℕ) → length a ≡ length b → a ++ s ≡ b ++ t → (a ≡ b) × (s ≡ t)

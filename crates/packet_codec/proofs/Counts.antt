@@ -1,18 +1,9 @@
 -- Texts and lists of inserts: a count in a byte, and so many behind it.
 use Rattle.std.proofs.Common.{◌≡◌, ℕ, zero, suc, ◌+◌, ◌*◌, ◌<◌, ◌≤◌, List, [], ◌∷◌, ◌++◌, length, take, drop, get_or, refl, sym, ap, ◌∙◌, subst, append_assoc, arith}
 use Rattle.std.specs.Prelude.{replicate}
-use Rattle.std.proofs.lemmas.List.{length-append, length-replicate, get_or-replicate, get_or_default, take_more}
-use Rattle.list_words.specs.Lists.{Each}
+use Rattle.packet_codec.proofs.Words.{AreCounted, Batch, Each, Followed, Insert, IsBadBefore, IsInsert, MOST_INSERTS, Run, Spelled, batch, batch_head, counted, get_or-replicate, get_or_default, insert, inserts, length-append, length-replicate, take_more, text}
 use Rattle.log_records.specs.declared.text.TheConstants.{MAX_TEXT}
 use Rattle.log_records.specs.Text.{IsText}
-use Rattle.registry_state.specs.declared.TheConstants.{MOST_INSERTS}
-use Rattle.registry_state.specs.declared.Insert.{Insert}
-use Rattle.registry_state.specs.declared.Batch.{Batch}
-use Rattle.turn_defs.specs.Spellings.{insert, IsInsert, inserts, batch_head, batch, text}
-use Rattle.packet_codec.specs.Bad.{Spelled, Followed}
-use Rattle.packet_codec.specs.Cells.{Run}
-use Rattle.packet_codec.specs.Counted.{counted, AreCounted}
-use Rattle.packet_codec.specs.Stops.{IsBadBefore}
 use Rattle.packet_codec.proofs.BadPlaces.{front_same, before_same}
 use Rattle.packet_codec.proofs.PartLaws.{IsApart, IsSum, followed_first, followed_next}
 

@@ -8,3 +8,4 @@ pub mod Counts
 pub mod NoteParts
 pub mod PacketParts
 pub mod BadPackets
+pub mod Words

@@ -1,28 +1,19 @@
 -- Fields that are made of two or three others.
 use Rattle.std.proofs.Common.{◌≡◌, ℕ, List, [], ◌∷◌, ◌++◌, ◌<◌, ◌≤◌, length, refl, arith}
-use Rattle.list_words.specs.Lists.{Each}
-use Rattle.packet_codec.specs.Cells.{Run}
+use Rattle.packet_codec.proofs.Words.{AreCounted, Batch, Each, Insert, IsBallot, IsBatch, IsInsert, IsNumber, IsPlace, IsToken, MOST_INSERTS, Run, Spelled, Stop, Stops, ballot, batch, click, counted, insert, inserts, number, place, query, text, token}
 use Rattle.packet_codec.proofs.BadPlaces.{stops_on}
 use Rattle.event_id.specs.declared.id.EventId.{EventId}
 use Rattle.event_id.specs.EventId.{packed, IsId}
-use Rattle.registry_state.specs.declared.TheConstants.{MOST_INSERTS}
 use Rattle.registry_state.specs.declared.Token.{Token}
 use Rattle.packet_codec.specs.declared.fields.numbers.Small.{Small}
 use Rattle.packet_codec.specs.declared.fields.numbers.Capped.{Capped}
-use Rattle.registry_state.specs.declared.Insert.{Insert}
 use Rattle.ballot_core.specs.declared.Ballot.{Ballot}
 use Rattle.paxos_defs.specs.declared.Place.{Place}
-use Rattle.registry_state.specs.declared.Batch.{Batch}
 use Rattle.log_records.specs.declared.records.QueryRec.{QueryRec}
 use Rattle.log_records.specs.declared.records.ClickRec.{ClickRec}
 use Rattle.log_records.specs.Text.{IsText}
 use Rattle.log_records.specs.Line.{IsQuery, IsClick}
-use Rattle.packet_codec.specs.Counted.{counted, AreCounted}
-use Rattle.turn_defs.specs.Spellings.{number, IsNumber, token, IsToken, insert, IsInsert, inserts, ballot, IsBallot, place, IsPlace, batch, IsBatch, text, query, click}
 use Rattle.packet_codec.proofs.Counts.{text_apart, counted_apart, counted_sum, inserts_bad, some_text}
-use Rattle.packet_codec.specs.declared.fields.stop.Stop.{Stop}
-use Rattle.packet_codec.specs.Bad.{Spelled}
-use Rattle.packet_codec.specs.Stops.{Stops}
 use Rattle.packet_codec.proofs.PartLaws.{IsApart, Two, Three, IsPair, IsTriple, pair_bad, triple_bad, pair_apart, triple_apart, tag_bad, next_whole}
 use Rattle.packet_codec.specs.Numbers.{half, IsHalf, word, IsWord, small, IsSmall, capped, IsCapped}
 use Rattle.packet_codec.proofs.Numbers.{half_apart, word_apart, number_apart, small_apart, capped_apart}

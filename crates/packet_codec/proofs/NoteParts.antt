@@ -1,12 +1,9 @@
 -- A replica's notes.
 use Rattle.std.proofs.Common.{◌≡◌, ℕ, zero, suc, ◌+◌, ◌≤◌, List, ◌∷◌, length, refl, ap, arith}
-use Rattle.registry_state.specs.declared.TheConstants.{MOST_INSERTS}
-use Rattle.registry_state.specs.declared.Batch.{Batch}
+use Rattle.packet_codec.proofs.Words.{Batch, IsBallot, IsBatch, IsPlace, MOST_INSERTS, Spelled, ballot, batch, place}
 use Rattle.paxos_acceptor.specs.declared.notes.ReplicaNote.{ReplicaNote}
 use Rattle.paxos_acceptor.specs.declared.notes.ReplicaNote.TheVariants.{Promised, Accepted}
 use Rattle.paxos_acceptor.specs.Cells.{place_of}
-use Rattle.packet_codec.specs.Bad.{Spelled}
-use Rattle.turn_defs.specs.Spellings.{place, IsPlace, ballot, IsBallot, batch, IsBatch}
 use Rattle.packet_codec.specs.Notes.{note, IsNote}
 use Rattle.packet_codec.proofs.Counts.{batch_room}
 use Rattle.packet_codec.proofs.Made.{batch_apart, some_place, some_ballot, some_batch}

@@ -1,11 +1,7 @@
 -- Numbers as fields: where their first bad byte is, and that each has one spelling.
 use Rattle.std.proofs.Common.{◌≡◌, ℕ, ◌^◌, ◌<◌, List, get_or, refl, sym, subst, arith}
-use Rattle.packet_codec.specs.declared.fields.stop.Stop.{Stop}
-use Rattle.packet_codec.specs.Bad.{Spelled}
-use Rattle.packet_codec.specs.Cells.{Run, UpTo}
+use Rattle.packet_codec.proofs.Words.{IsNumber, Run, Spelled, Stop, Stops, UpTo, number}
 use Rattle.packet_codec.specs.Numbers.{half, IsHalf, word, IsWord, small, IsSmall, small_limits, capped, IsCapped}
-use Rattle.packet_codec.specs.Stops.{Stops}
-use Rattle.turn_defs.specs.Spellings.{number, IsNumber}
 use Rattle.packet_codec.proofs.BadPlaces.{front_same, stops_same}
 use Rattle.packet_codec.proofs.PartLaws.{IsApart}
 use Rattle.packet_codec.specs.declared.fields.numbers.Small.{Small}

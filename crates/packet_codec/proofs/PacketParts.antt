@@ -1,15 +1,13 @@
 -- What may follow each tag in a packet's spelling, and that each packet has one, which begins no other.
 use Rattle.std.proofs.Common.{◌≡◌, ℕ, zero, suc, ◌+◌, ◌≤◌, List, [], ◌∷◌, ◌++◌, drop, get_or, refl, ap, arith}
+use Rattle.packet_codec.proofs.Words.{IsAnswer, IsBallot, IsBatch, IsInsert, IsNumber, IsOutcome, IsPacket, IsPlace, IsPrior, Spelled, answer, ballot, batch, click, insert, number, outcome, packet, place, prior}
 use Rattle.log_records.specs.Line.{IsClick}
-use Rattle.packet_codec.specs.Bad.{Spelled}
-use Rattle.turn_defs.specs.Spellings.{number, IsNumber, insert, IsInsert, answer, IsAnswer, ballot, IsBallot, place, IsPlace, batch, IsBatch, prior, IsPrior, click}
 use Rattle.packet_codec.proofs.Made.{insert_apart, ballot_apart, place_apart, batch_apart, click_apart, some_number, some_insert, some_ballot, some_place, some_batch, some_click}
 use Rattle.packet_codec.proofs.Numbers.{number_apart}
 use Rattle.packet_codec.proofs.PartLaws.{IsApart, IsSum, Two, Three, two, three, two_whole, three_whole, two_same, three_same}
 use Rattle.packet_codec.proofs.Tagged.{answer_apart, outcome_apart, prior_apart, some_answer, some_outcome, some_prior}
 use Rattle.turn_defs.specs.declared.packet.Packet.{Packet}
 use Rattle.turn_defs.specs.declared.packet.Packet.TheVariants.{Join, Joined, Insert, Reply, Prepare, Promise, Nack, Accept, Accepted, Chosen}
-use Rattle.turn_defs.specs.Packets.{outcome, IsOutcome, packet, IsPacket}
 
 -- the fields of the kind that so many stand before
 abbrev pub Fields : ℕ → List ℕ → Type 0

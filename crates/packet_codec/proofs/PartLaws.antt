@@ -2,10 +2,7 @@
 -- and the first bad byte of the whole is that of a part.
 use Rattle.std.proofs.Common.{◌≡◌, ℕ, ◌+◌, ◌-◌, ◌≤◌, List, [], ◌∷◌, ◌++◌, length, drop, get_or, refl, sym, ap, ◌∙◌, subst, append_assoc, arith}
 use Rattle.std.specs.Prelude.{Result, IfErr, IsErrAnd}
-use Rattle.packet_codec.specs.declared.fields.stop.Stop.{Stop}
-use Rattle.packet_codec.specs.Bad.{Spelled, Followed, After}
-use Rattle.packet_codec.specs.Cells.{Run}
-use Rattle.packet_codec.specs.Stops.{IsBadBefore, Stops}
+use Rattle.packet_codec.proofs.Words.{After, Followed, IsBadBefore, Run, Spelled, Stop, Stops}
 use Rattle.packet_codec.proofs.BadPlaces.{front_same, before_same, before_front, before_agreed, stops_on, stops_same, stopped}
 use Rattle.packet_codec.proofs.NumberBytes.{run_one, one_of}
 

@@ -1,14 +1,11 @@
 -- Answers, outcomes, and what a replica accepted before: a tag, and what it says.
 use Rattle.std.proofs.Common.{◌≡◌, ℕ, zero, suc, ◌+◌, ◌≤◌, List, [], ◌∷◌, ◌++◌, drop, get_or, Option, Some, None, refl, ap, arith}
-use Rattle.registry_state.specs.declared.Batch.{Batch}
+use Rattle.packet_codec.proofs.Words.{Batch, IsAnswer, IsBallot, IsBatch, IsNumber, IsOutcome, IsPrior, IsToken, Spelled, answer, ballot, batch, number, outcome, prior, token}
 use Rattle.registry_state.specs.declared.Answer.{Answer}
 use Rattle.registry_state.specs.declared.Answer.TheVariants as answers
 use Rattle.ballot_core.specs.declared.Ballot.{Ballot}
 use Rattle.turn_defs.specs.declared.packet.Outcome.{Outcome}
 use Rattle.turn_defs.specs.declared.packet.Outcome.TheVariants as outcomes
-use Rattle.packet_codec.specs.Bad.{Spelled}
-use Rattle.turn_defs.specs.Spellings.{number, IsNumber, token, IsToken, ballot, IsBallot, batch, IsBatch, prior, IsPrior, answer, IsAnswer}
-use Rattle.turn_defs.specs.Packets.{outcome, IsOutcome}
 use Rattle.packet_codec.proofs.PartLaws.{IsApart, IsSum, Two, two, two_whole}
 use Rattle.packet_codec.proofs.Made.{token_apart, batch_apart, some_number, some_token, some_ballot, some_batch}
 use Rattle.packet_codec.proofs.Numbers.{number_apart}

@@ -19,6 +19,7 @@ use wire_core::Origin;
 
 /// The packet that the bytes spell, all of them. Linear in the bytes. A batch's list of inserts is allocated, and a text
 /// where the origin has no shared bytes, and nothing else.
+#[tactic(auto, using(crate::proofs::BadPackets::bad_whole))]
 pub fn decode(origin: Origin, bytes: &[u8]) -> Result<Packet, DecodeFault>
     // What is decoded is spelled so.
     ensures found { IfOk result (λ p. IsPacket p × (bytes.now ≡ packet p)) }
@@ -46,6 +47,7 @@ pub fn decode(origin: Origin, bytes: &[u8]) -> Result<Packet, DecodeFault>
 }
 
 // The packet whose spelling the bytes begin with, and the bytes behind it.
+#[tactic(auto, using(crate::proofs::BadPlaces::stops_through, crate::proofs::PartLaws::after_whole, crate::proofs::PacketParts::packet_sum))]
 fn read_packet<'a>(origin: Origin, bytes: &'a [u8]) -> Result<(Packet, &'a [u8]), Stop>
     ensures is { IfOk result (λ p. IsPacket p.0) }
     ensures found { IfOk result (λ p. bytes.now ≡ packet p.0 ++ p.1.now) }

@@ -5,6 +5,7 @@ ghost use Rattle.packet_codec.specs.Rows.{InsertRow, JoinRow, JoinedRow, ReplyRo
 ghost use Rattle.turn_defs.specs.declared.packet.Packet.{Packet};
 
 /// Each spelling is of one packet, and none begins another.
+#[tactic(auto, using(crate::proofs::PacketParts::packet_apart))]
 pub fn one_spelling()
     ensures one { (p q : Packet) → IsPacket p → IsPacket q → packet p ≡ packet q → p ≡ q }
     ensures apart { (p q : Packet) (s t : List ℕ) → IsPacket p → IsPacket q → packet p ++ s ≡ packet q ++ t → p ≡ q }

@@ -1,23 +1,8 @@
 -- Each event of replicas and servers keeps what holds, and so does each run.
-use Rattle.std.proofs.Common.{◌≡◌, ◌⊎◌, ℕ, suc, max, ◌<◌, ◌≤◌, List, [], ◌∷◌, ◌++◌, length, Bool, true, ◌&&◌, Option, Some, None, inl, inr, refl, sym, ap, ◌∙◌, subst, arith}
-use Rattle.std.specs.Prelude.{slice_get, ◌==◌, ◌≢◌}
-use Rattle.std.proofs.lemmas.Bool.{cond_both, eqb-true, and_parts}
-use Rattle.list_words.specs.Lists.{Mem, set_at}
-use Rattle.list_words.proofs.Lists.{at_set, at_set_if}
-use Rattle.ballot_core.specs.declared.Ballot.{Ballot}
-use Rattle.ballot_core.specs.Ballots.{is_same}
-use Rattle.ballot_core.proofs.Order.{same_true}
-use Rattle.paxos_defs.specs.declared.Place.{Place}
-use Rattle.paxos_defs.specs.Notes.{Note, acceptance}
-use Rattle.paxos_defs.specs.Agreement.{IsChosen, JournalsAgree}
-use Rattle.paxos_defs.specs.Attempts.{Phase, on_promise, on_accepted}
-use Rattle.paxos_defs.specs.Facts.{IsGrant, IsAnswered, IsUnheard}
-use Rattle.paxos_defs.proofs.Decided.{at_push}
-use Rattle.paxos_defs.proofs.Facts.{unheard_written, chosen_written, unheard_sent, asks, offers}
-use Rattle.paxos_world.specs.Replicas.{Packet}
-use Rattle.paxos_world.specs.Replicas.Packet.{Prepare, Promise, Nack, Accept, Accepted, Chosen}
-use Rattle.paxos_world.specs.ServersWorld.{Proposal, Shard, Live, Server, World, Event, next_place, opened, with_server, goes_on, begins, phase_after, learns, promise_counted, acceptance_counted, counts, packet_returns, if_up, returns, starts, happens, run, EpochsKept, learned_of}
-use Rattle.paxos_world.specs.ServersWorld.Event.{Proposes, Comes, Returns, ReplicaRestarts, Stops, Starts}
+use Rattle.std.proofs.Common.{◌≡◌, ◌⊎◌, ℕ, suc, max, ◌<◌, ◌≤◌, List, [], ◌∷◌, ◌++◌, length, Bool, true, ◌&&◌, Option, Some, None, inl, inr, refl, sym, ap, ◌∙◌, subst, arith, slice_get, ◌==◌, ◌≢◌}
+use Rattle.paxos_world.proofs.Words.{cond_both, eqb-true, and_parts, Mem, set_at, at_set, at_set_if, Ballot, is_same, same_true, Place, Note, acceptance, IsChosen, JournalsAgree, Phase, on_promise, on_accepted, IsGrant, IsAnswered, IsUnheard, at_push, unheard_written, chosen_written, unheard_sent, asks, offers, Packet, Prepare, Promise, Nack, Accept, Accepted, Chosen, Proposal, Shard, Live, Server, next_place, with_server, begins, phase_after, learns, packet_returns, if_up, starts, EpochsKept, learned_of, Stops, Starts}
+use Rattle.paxos_world.specs.ServersWorld.{World, Event, opened, goes_on, promise_counted, acceptance_counted, counts, returns, happens, run}
+use Rattle.paxos_world.specs.ServersWorld.Event.{Proposes, Comes, Returns, ReplicaRestarts}
 use Rattle.paxos_world.proofs.Replicas.{Offered, Stands, Holds, IsQuiet, Lasts, stands_written, accept_came, stands_sent, Asked, promise_counts, Learned, acceptance_counts, holds_restored, was_sent, holds_with, holds_offered, holds_sent, arrives_holds, restarts_holds}
 
 -- a ballot of server s that it hasn't drawn yet, by its kept epoch and its round

@@ -1,24 +1,8 @@
 -- Each event of replicas and proposers keeps what holds, and so does each run.
-use Rattle.std.proofs.Common.{◌≡◌, ℕ, zero, suc, List, [], ◌∷◌, length, get_or, replicate, Bool, true, false, cond, ◌||◌, Option, Some, None, inl, refl, sym, ap, ◌∙◌, subst, arith}
-use Rattle.std.specs.Prelude.{slice_get}
-use Rattle.std.proofs.lemmas.Bool.{cond_both}
-use Rattle.list_words.specs.Lists.{Mem, Each}
-use Rattle.list_words.proofs.Lists.{each_more}
-use Rattle.ballot_core.specs.declared.Ballot.{Ballot}
-use Rattle.ballot_core.specs.Ballots.{is_same}
-use Rattle.ballot_core.proofs.Order.{same_true, same_false}
-use Rattle.paxos_defs.specs.declared.Place.{Place}
-use Rattle.paxos_defs.specs.Notes.{is_place, Note}
-use Rattle.paxos_defs.specs.Agreement.{IsChosen, JournalsAgree}
-use Rattle.paxos_defs.specs.Attempts.{Phase, Attempt, nobody, on_promise, on_accepted}
-use Rattle.paxos_defs.specs.Attempts.Phase.{Promising, Ended}
-use Rattle.paxos_defs.specs.Facts.{IsGrant, IsAnswered, IsUnheard, Writes}
-use Rattle.paxos_defs.proofs.Places.{place_true, not_noted}
-use Rattle.paxos_defs.proofs.Facts.{unheard_written, chosen_written, unheard_sent, asks, offers}
-use Rattle.paxos_world.specs.Replicas.{Packet}
-use Rattle.paxos_world.specs.Replicas.Packet.{Prepare, Promise, Nack, Accept, Accepted}
-use Rattle.paxos_world.specs.World.{World, Event, opened, goes_on, promise_counted, acceptance_counted, counts, returns, draws, proposes, happens, run}
-use Rattle.paxos_world.specs.World.Event.{Proposes, Comes, Returns, ReplicaRestarts, ProposerRestarts}
+use Rattle.std.proofs.Common.{◌≡◌, ℕ, zero, suc, List, [], ◌∷◌, length, get_or, replicate, Bool, true, false, cond, ◌||◌, Option, Some, None, inl, refl, sym, ap, ◌∙◌, subst, arith, slice_get}
+use Rattle.paxos_world.proofs.Words.{cond_both, Mem, Each, each_more, Ballot, is_same, same_true, same_false, Place, is_place, Note, IsChosen, JournalsAgree, Phase, Attempt, nobody, on_promise, on_accepted, Promising, Ended, IsGrant, IsAnswered, IsUnheard, Writes, place_true, not_noted, unheard_written, chosen_written, unheard_sent, asks, offers, Packet, Prepare, Promise, Nack, Accept, Accepted, draws, proposes, ProposerRestarts}
+use Rattle.paxos_world.specs.World.{World, Event, opened, goes_on, promise_counted, acceptance_counted, counts, returns, happens, run}
+use Rattle.paxos_world.specs.World.Event.{Proposes, Comes, Returns, ReplicaRestarts}
 use Rattle.paxos_world.proofs.Replicas.{Offered, Stands, Holds, IsQuiet, Lasts, stands_written, accept_came, stands_sent, Asked, promise_counts, Learned, acceptance_counts, was_sent, holds_offered, holds_sent, arrives_holds, restarts_holds}
 
 -- A ballot that wasn't drawn was never heard of, and one that was drawn may have an attempt.

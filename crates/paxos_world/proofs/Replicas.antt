@@ -1,24 +1,6 @@
 -- What holds of replicas and packets in both worlds, and how each of their turns keeps it.
-use Rattle.std.proofs.Common.{◌≡◌, ℕ, zero, suc, ◌<◌, List, [], ◌∷◌, length, set, Bool, true, false, cond, ◌&&◌, ◌==◌, Option, Some, None, inl, inr, ⊎_elim, refl, sym, ap, ◌∙◌, subst, arith}
-use Rattle.std.specs.Prelude.{slice_get, nat_lt}
-use Rattle.std.proofs.lemmas.Bool.Decides.{nat_tests}
-use Rattle.std.proofs.lemmas.Bool.{cond_both, ltb-true}
-use Rattle.list_words.specs.Lists.{Mem}
-use Rattle.list_words.proofs.Lists.{none_some, some_same}
-use Rattle.ballot_core.specs.declared.Ballot.{Ballot}
-use Rattle.paxos_defs.specs.declared.Place.{Place}
-use Rattle.paxos_defs.specs.Notes.{is_place, Note, note_of, Vote, acceptance, votes, cell_after, cell_of}
-use Rattle.paxos_defs.specs.Agreement.{IsChosen, IsOnly, IsSafe, JournalsAgree, Rises}
-use Rattle.paxos_defs.specs.Turns.{Prepared, Taken, on_prepare, on_accept}
-use Rattle.paxos_defs.specs.Attempts.{Phase, is_new, is_most, nobody, on_promise, on_accepted}
-use Rattle.paxos_defs.specs.Attempts.Phase.{Promising, Accepting, Ended}
-use Rattle.paxos_defs.specs.Facts.{IsGrant, IsRefusal, IsOffer, IsAnswered, IsUnheard, IsAsking, IsOffering, Writes}
-use Rattle.paxos_defs.proofs.Cells.{Knows, cell_knows, cell_push}
-use Rattle.paxos_defs.proofs.Places.{noted, note_casts, note_elsewhere, place_true}
-use Rattle.paxos_defs.proofs.Turns.{after, PreparedHolds, IsPromiseVote, prepare_holds, IsAcceptanceVote, TakenHolds, accept_holds}
-use Rattle.paxos_defs.proofs.Facts.{grant_written, refusal_written, offer_written, answer_written, asking_written, offering_written, chosen_written, first_offer, vote_suits, note_writes, note_agrees, asks_on, asked, offers_on, accepted}
-use Rattle.paxos_world.specs.Replicas.{Packet, Replicas, restored, sent, casts, prepared, taken, comes, arrives, restarts}
-use Rattle.paxos_world.specs.Replicas.Packet.{Prepare, Promise, Nack, Accept, Accepted, Chosen}
+use Rattle.std.proofs.Common.{◌≡◌, ℕ, zero, suc, ◌<◌, List, [], ◌∷◌, length, set, Bool, true, false, cond, ◌&&◌, ◌==◌, Option, Some, None, inl, inr, ⊎_elim, refl, sym, ap, ◌∙◌, subst, arith, slice_get, nat_lt}
+use Rattle.paxos_world.proofs.Words.{nat_tests, cond_both, ltb-true, Mem, none_some, some_same, Ballot, Place, is_place, Note, note_of, Vote, acceptance, votes, cell_after, cell_of, IsChosen, IsOnly, IsSafe, JournalsAgree, Rises, Prepared, Taken, on_prepare, on_accept, Phase, is_new, is_most, nobody, on_promise, on_accepted, Promising, Accepting, Ended, IsGrant, IsRefusal, IsOffer, IsAnswered, IsUnheard, IsAsking, IsOffering, Writes, Knows, cell_knows, cell_push, noted, note_casts, note_elsewhere, place_true, after, PreparedHolds, IsPromiseVote, prepare_holds, IsAcceptanceVote, TakenHolds, accept_holds, grant_written, refusal_written, offer_written, answer_written, asking_written, offering_written, chosen_written, first_offer, vote_suits, note_writes, note_agrees, asks_on, asked, offers_on, accepted, Packet, Replicas, restored, sent, casts, prepared, taken, comes, arrives, restarts, Prepare, Promise, Nack, Accept, Accepted, Chosen}
 
 abbrev pub Offered : {V : Type 0} → List (Packet V) → Place → Ballot → V → Type 0
 Offered ps p b v = Mem (Accept p b v) ps

@@ -1,7 +1,6 @@
 -- Whole logs.
-use Rattle.std.proofs.Common.{◌≡◌, ◌≢◌, inl, inr, ℕ, suc, ◌+◌, ◌-◌, ◌^◌, ◌<◌, ◌≤◌, min, IsTrue, Bool, true, false, None, List, [], ◌∷◌, ◌++◌, length, map, refl, sym, ap, subst, ◌∙◌, arith}
-use Rattle.std.specs.Prelude.{if◌then◌else◌, ◌↔◌}
-use Rattle.photon_cli.proofs.Words.{cases_lt, map_push, take_all, length-append, length-map, Lacks, lacks_none, EventId, ClickRec, Why, BadLine, click_line, IsClick, OrMemory, placed, end_from, line_feed, whole, MAX_LOG, IsLog, NextWhy, clicks_same, clicks_found, Places, place_at, Keeps, Step, Lines, SoFar, AtEnd, WrongNext, IsStep, EndsAt, kept, AreLines, IsChecked, length-one}
+use Rattle.std.proofs.Common.{◌≡◌, ◌≢◌, inl, inr, ℕ, suc, ◌+◌, ◌-◌, ◌^◌, ◌<◌, ◌≤◌, min, IsTrue, Bool, true, false, Option, Some, None, List, [], ◌∷◌, ◌++◌, length, map, refl, sym, ap, subst, ◌∙◌, arith, if◌then◌else◌, ◌↔◌}
+use Rattle.photon_cli.proofs.Words.{cases_lt, map_push, take_all, length-append, length-map, Lacks, lacks_none, IsSomeAnd, EventId, QueryRec, ClickRec, Why, BadLine, query_line, IsQuery, IsQueryLog, queries_found, click_line, IsClick, IsClickLog, OrMemory, placed, end_from, line_feed, whole, MAX_LOG, IsLog, NextWhy, clicks_same, clicks_found, Places, place_at, Keeps, Step, Lines, SoFar, AtEnd, WrongNext, IsStep, EndsAt, kept, AreLines, IsChecked, length-one}
 use Rattle.log_records.specs.declared.why.Why.TheVariants as why
 use Rattle.log_records.specs.Check.{Refuses}
 use Rattle.photon_cli.specs.declared.log_check.step.Step.TheVariants as step
@@ -108,9 +107,22 @@ ends_placed : (p : ℕ) (cs : List ClickRec) → end_from p (placed p cs) ≡ p 
 ends_placed p [] = omega arith
 ends_placed p (c ∷ cs) = let rest = ends_placed (suc (p + length (click_line c))) cs in omega (arith, rest, length-one (click_line c) (map click_line cs))
 
-pub clicks_end : (log : List ℕ) (cs : List ClickRec) (end_ : ℕ) → IsLog click_line IsClick (λ c. c.id) log cs → end_ ≡ length (whole (map click_line cs)) → EndsAt log end_
+clicks_end : (log : List ℕ) (cs : List ClickRec) (end_ : ℕ) → IsLog click_line IsClick (λ c. c.id) log cs → end_ ≡ length (whole (map click_line cs)) → EndsAt log end_
 clicks_end log cs end_ h is ls holds =
     let same : holds.clicks ≡ cs = clicks_same log holds.clicks cs holds.holds (clicks_found log cs h).0 in
     let there : ls ≡ placed 0 cs = holds.lines ∙ ap (placed 0) same in
     let from_start : 0 + length (whole (map click_line cs)) ≡ length (whole (map click_line cs)) = omega arith in
     is ∙ sym (ap (end_from 0) there ∙ ends_placed 0 cs ∙ from_start)
+
+-- ---- what the check of a log answers, by what it held when it was read
+
+pub queries_read : (o : Option (List ℕ)) (read : Lines) → IsSomeAnd o (λ b. (qs : List QueryRec) × IsChecked query_line IsQuery (λ q. q.id) false b qs read) → (qs : List QueryRec) × IsSomeAnd o (λ b. IsQueryLog b qs)
+queries_read None read h = absurd h
+queries_read (Some log) read (qs, h) = (qs, queries_found log qs h.holds)
+
+-- the clicks, which have the ids that were kept, and the end of the last whole line
+pub clicks_read : (o now : Option (List ℕ)) (read : Lines) → now ≡ o → IsSomeAnd now (λ b. (cs : List ClickRec) × IsChecked click_line IsClick (λ c. c.id) true b cs read)
+    → (x : (cs : List ClickRec) × IsSomeAnd o (λ b. IsClickLog b cs)) × (read.ids.items ≡ map (λ (c : ClickRec). c.id) x.0) × IsSomeAnd o (λ b. EndsAt b read.end)
+clicks_read o None read same h = absurd h
+clicks_read o (Some log) read same (cs, h) =
+    ((cs, subst (λ p. IsSomeAnd p (λ b. IsClickLog b cs)) same (clicks_found log cs h.holds)), h.ids, subst (λ p. IsSomeAnd p (λ b. EndsAt b read.end)) same (clicks_end log cs read.end h.holds h.end_is))

@@ -1,7 +1,5 @@
 -- Why a drill gives up, and which of its joiners stop, by the stops that its plan has.
-use Rattle.std.specs.Prelude.{filter}
-use Rattle.std.proofs.Common.{◌≡◌, ℕ, ◌+◌, ◌<◌, ◌≤◌, ◌==◌, Bool, true, false, ◌||◌, List, [], ◌∷◌, map, Option, Some, None, Ok, IsTrue, if◌then◌else◌, refl, sym, ap, subst, arith}
-use Rattle.std.proofs.lemmas.Bool.{ne_eqb}
+use Rattle.std.proofs.Common.{◌≡◌, ℕ, ◌+◌, ◌<◌, ◌≤◌, ◌==◌, Bool, true, false, ◌||◌, List, [], ◌∷◌, map, Option, Some, None, Ok, IsTrue, if◌then◌else◌, refl, sym, ap, subst, arith, filter, ne_eqb}
 use Rattle.photon_cli.proofs.Words.{list_any, IfSome, IsSomeAnd, Each, DiskName, DiskKind, Epoch, Output, Fuse, PlanStop, PlanView, ReportLine, RunFault, RunLog, Images, IsCauseOf, IsWelcome, Kept, KeptDisk, KeepsAs, EpochIs, IsKept, NotesAre, Setting, limit_at, limit_in, HasOutcome, Outcome, one_outcome, is_at, is_for, is_joiners, is_planned, of_joiners, planned_for, AtMost, StopsAtMost, StopsAsPlanned, none_of_joiners, RanAfresh, IsDrilled, IsHeardOf, IsOfDrill, AllInAll, Node, SparesNodes, ShardRow, StorePlace, Values, config_of, fuse_of, names_of}
 use Rattle.site_store.specs.Plans.{HasSoon}
 use Rattle.outside.specs.declared.store.DiskName.TheVariants as name

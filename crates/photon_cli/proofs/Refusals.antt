@@ -1,6 +1,6 @@
 -- Refused lines, as faults.
 use Rattle.std.proofs.Common.{◌≡◌, ℕ, Option, Some, None, arith}
-use Rattle.photon_cli.proofs.Words.{IsSomeAnd, Why, LogName, RunFault, IsLogFault}
+use Rattle.photon_cli.proofs.Words.{IsSomeAnd, BadLine, Why, LogName, RunFault, IsLogFault}
 use Rattle.run_fault.specs.declared.fault.RunFault.TheVariants as fault
 
 pub within : {A : Type 0} (o : Option A) (P Q : A → Type 0) → ((x : A) → P x → Q x) → IsSomeAnd o P → IsSomeAnd o Q
@@ -8,5 +8,5 @@ within None P Q f h = h
 within (Some x) P Q f h = f x h
 
 -- a refused line is of the log that was read
-pub same_log : (own log : LogName) (f : RunFault) (line : ℕ) (w : Why) → IsLogFault own f → f ≡ fault.Refused log line w → own ≡ log
-same_log own log f line w k h = grind arith
+pub of_its_log : (P : LogName → BadLine → Type 0) (own log : LogName) (f : RunFault) (line : ℕ) (w : Why) → IsLogFault own f → (f ≡ fault.Refused own line w → P own (record { line = line; why = w })) → f ≡ fault.Refused log line w → P log (record { line = line; why = w })
+of_its_log P own log f line w k told h = grind arith

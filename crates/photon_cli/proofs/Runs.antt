@@ -2,7 +2,7 @@
 use Rattle.std.proofs.Common.{arith}
 use Rattle.std.specs.Prelude.{Ok, ⊤}
 use Rattle.std.proofs.Common.{◌≡◌, ℕ, suc, ◌+◌, List, [], ◌∷◌, map, Option, Some, None, refl, sym, ap, ◌∙◌, length, subst}
-use Rattle.photon_cli.proofs.Words.{Config, IfSome, IsSomeAnd, PlanView, AreLinesBy, Images, IsSoundStore, IsTable, Joins, JoinsAfresh, LeavesNothing, RanAfresh, ReportLine, RestJoins, RestJoinsAfresh, RestLeft, RestRanAfresh, RunLeft, RunLog, RunOutcome, RunsOver, ShardRow, distinct, line_of, only_table, EventId, QueryRec, ClickRec, IsQueryLog, IsClickLog, click_line, ClickLine, placed, end_from, lines_follow, Setting, Checked, IsLogOf, IsSettingOf, Values, EndsAt, AreLogs, AreValid, HasIds, HaveIds, IsAsked, IsHeardOf, IsHistory, config_of, IsTextOf}
+use Rattle.photon_cli.proofs.Words.{Config, IfSome, IsSomeAnd, PlanView, AreLinesBy, Images, IsSoundStore, IsTable, Joins, JoinsAfresh, LeavesNothing, RanAfresh, ReportLine, RestJoins, RestJoinsAfresh, RestLeft, RestRanAfresh, RunLeft, RunLog, RunOutcome, RunsOver, ShardRow, distinct, line_of, only_table, EventId, QueryRec, ClickRec, click_line, ClickLine, placed, end_from, lines_follow, Setting, Checked, IsLogOf, IsSettingOf, Values, EndsAt, AreLogs, AreValid, HaveIds, IsAsked, IsHeardOf, IsHistory, config_of, IsTextOf}
 use Rattle.photon_cli.proofs.Refusals.{within}
 
 pub taken : {A : Type 0} (o : Option A) (P : A → Type 0) → IsSomeAnd o P → (x : A) × P x
@@ -32,23 +32,6 @@ log_checked (Some log) g h = let x = lines_follow log g.clicks h.lines in record
 pub clicks_back : (p : ℕ) (cs : List ClickRec) → map (λ (l : ClickLine). l.click) (placed p cs) ≡ cs
 clicks_back p [] = refl
 clicks_back p (c ∷ cs) = ap (λ (ds : List ClickRec). c ∷ ds) (clicks_back (suc (p + length (click_line c))) cs)
-
--- ---- two logs that were checked
-
-some_queries : (o : Option (List ℕ)) → IsSomeAnd o (λ log. (qs : List QueryRec) × IsQueryLog log qs) → (qs : List QueryRec) × IsSomeAnd o (λ log. IsQueryLog log qs)
-some_queries None h = absurd h
-some_queries (Some log) h = h
-
-some_clicks : (ids : List EventId) (o : Option (List ℕ)) → IsSomeAnd o (λ log. HasIds log ids) → (cs : List ClickRec) × IsSomeAnd o (λ log. IsClickLog log cs) × (ids ≡ map (λ (c : ClickRec). c.id) cs)
-some_clicks ids None h = absurd h
-some_clicks ids (Some log) h = (h.clicks, h.holds, h.are)
-
-pub both_logs : (told : List ℕ → Option (List ℕ)) (queries clicks : List ℕ) (ids : List EventId) → IsSomeAnd (told queries) (λ log. (qs : List QueryRec) × IsQueryLog log qs) → IsSomeAnd (told clicks) (λ log. HasIds log ids)
-    → (qs : List QueryRec) × (cs : List ClickRec) × AreLogs told queries clicks qs cs × (ids ≡ map (λ (c : ClickRec). c.id) cs)
-both_logs told queries clicks ids q k = grind (arith, some_queries, some_clicks)
-
-pub clicks_there : (ids : List EventId) (o : Option (List ℕ)) → IsSomeAnd o (λ log. HasIds log ids) → (cs : List ClickRec) × IsSomeAnd o (λ log. IsClickLog log cs)
-clicks_there ids o h = let found = some_clicks ids o h in (found.0, found.1)
 
 -- the clicks of lines that were placed have the ids that were read
 pub placed_ids : (ids : List EventId) (cs : List ClickRec) → ids ≡ map (λ (c : ClickRec). c.id) cs → map (λ (c : ClickRec). c.id) (map (λ (l : ClickLine). l.click) (placed 0 cs)) ≡ ids

@@ -1,6 +1,6 @@
 -- How a verification ends at each fault.
 use Rattle.std.proofs.Common.{◌≡◌, ℕ, List, [], map, nat_lt, Option, None, Some, Bool, false, IsTrue, refl, sym, ap, subst, ◌∙◌, arith}
-use Rattle.photon_cli.proofs.Words.{REPLICAS, IsSomeAnd, flat_map, nat_tests, EventId, same_batch, U, PairRec, note_view, ShardRow, shard_of, first_pair, line_by, line_of, DiskName, KeepsTopology, Setting, Images, HasTopology, KeptStore, IsRead, Tells, Journals, KeptTopology, ClickRec, IsClickLog, ClickLine, clicks_same, ReportLine, distinct, IsLogOf, HasIds, IsReadFrom, IsTold, left_before, sound_placed}
+use Rattle.photon_cli.proofs.Words.{REPLICAS, IsSomeAnd, flat_map, nat_tests, EventId, same_batch, U, PairRec, note_view, ShardRow, shard_of, first_pair, line_by, line_of, DiskName, KeepsTopology, Setting, Images, HasTopology, KeptStore, IsRead, Tells, Journals, KeptTopology, ClickRec, IsClickLog, ClickLine, clicks_same, ReportLine, distinct, IsLogOf, IsReadFrom, IsTold, left_before, sound_placed}
 use Rattle.paxos_defs.specs.Decided.{decided}
 use Rattle.outside.specs.declared.store.DiskName.TheVariants as name
 use Rattle.photon_cli.proofs.Runs.{clicks_back}
@@ -44,23 +44,22 @@ clicks_are log cs g own over =
     let same : cs ≡ over.lines.clicks = clicks_same log cs over.lines.clicks own.0 over.lines.holds in
     same ∙ sym (ap (map (λ (l : ClickLine). l.click)) over.lines.lines ∙ clicks_back 0 over.lines.clicks)
 
-module _ (before : Images) (kept : KeptStore) (ids : List EventId) (lines : List ReportLine)
-    (some : (t : KeptTopology) → kept.topology ≡ Some t → (cs : List ClickRec) → map (λ (c : ClickRec). c.id) cs ≡ ids → lines ≡ map (λ (c : ClickRec). line_of kept.journals t.table c.id) (distinct cs))
-    (none : kept.topology ≡ None → (cs : List ClickRec) → map (λ (c : ClickRec). c.id) cs ≡ ids → lines ≡ map (λ (c : ClickRec). U c.id) (distinct cs)) where
-  told_over : (log : List ℕ) → HasIds log ids → IsReadFrom before log kept → IsTold before log kept lines
+module _ (before : Images) (kept : KeptStore) (cs : List ClickRec) (lines : List ReportLine) (some : (t : KeptTopology) → kept.topology ≡ Some t → lines ≡ map (λ (c : ClickRec). line_of kept.journals t.table c.id) (distinct cs))
+    (none : kept.topology ≡ None → lines ≡ map (λ (c : ClickRec). U c.id) (distinct cs)) where
+  told_over : (log : List ℕ) → IsClickLog log cs → IsReadFrom before log kept → IsTold before log kept lines
   told_over log own read = record {
     topology = read.topology;
-    nothing = λ is ds others. none is own.clicks (sym own.are) ∙ ap (λ (xs : List ClickRec). map (λ (c : ClickRec). U c.id) (distinct xs)) (clicks_same log own.clicks ds own.holds.0 others.0);
+    nothing = λ is ds others. none is ∙ ap (λ (xs : List ClickRec). map (λ (c : ClickRec). U c.id) (distinct xs)) (clicks_same log cs ds own.0 others.0);
     something = λ t is g over.
         let tells = read.records t is g over in
         record {
           store = tells.store;
           left = tells.left;
           are = tells.are;
-          told = let table : t.table ≡ g.config.table = sym over.table in some t is own.clicks (sym own.are) ∙ (λ k. map (λ (c : ClickRec). line_of kept.journals (table k) c.id) (distinct (clicks_are log own.clicks g own.holds over.clicks k))) ∙ tells.lines;
+          told = let table : t.table ≡ g.config.table = sym over.table in some t is ∙ (λ k. map (λ (c : ClickRec). line_of kept.journals (table k) c.id) (distinct (clicks_are log cs g own over.clicks k))) ∙ tells.lines;
         };
   }
 
-  pub told_of : (o : Option (List ℕ)) → IsSomeAnd o (λ log. HasIds log ids) → IsSomeAnd o (λ log. IsReadFrom before log kept) → IsSomeAnd o (λ log. IsTold before log kept lines)
+  pub told_of : (o : Option (List ℕ)) → IsSomeAnd o (λ log. IsClickLog log cs) → IsSomeAnd o (λ log. IsReadFrom before log kept) → IsSomeAnd o (λ log. IsTold before log kept lines)
   told_of None own read = absurd own
   told_of (Some log) own read = told_over log own read

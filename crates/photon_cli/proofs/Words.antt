@@ -7,50 +7,31 @@ pub use Rattle.command_words.proofs.Levels.{plain_gives}
 pub use Rattle.command_words.proofs.Read.{same_command}
 pub use Rattle.command_words.proofs.Walks.{first_given, one_given, pair_rows}
 pub use Rattle.command_words.specs.Clap.{number_in, photon_app, text_in}
-pub use Rattle.command_words.specs.Words.{AskFor, BulkValues, IsFound, IsPlain, IsRefusedBy, Pairs, Text, Values, Wish, a_bulk_run, a_drill, a_join, a_resharding, a_verification, bulk_values, command_of, given, name_of, texts, values_in, wish_of, wish_by}
+pub use Rattle.photon_cli.specs.Terms.{AfterWhy, AreRecords, AskFor, BadLine, BulkValues, Checked, ClickLine, ClickRec, Clicks, Counts, DiskKind, DiskName, EndsOver, Epoch, EventId, Field, GoesOn, HasCause, Images, IsCauseOf, IsClickLog, IsFound, IsLog, IsLogOf, IsPlain, IsPlanOf, IsQueryLog, IsSoundStore, IsTable, IsWelcome, Joins, JoinsAfresh, Keeps, KeptValues, Lacks, LeavesSomething, LogName, MAX_LOG, Output, Pairs, Places, PlanStop, PlanView, Queries, QueryRec, RanAfresh, RefusesClick, RefusesQuery, ReportLine, Rose, RunFault, RunLeft, RunLog, Setting, ShardRow, StaysAs, StorePlace, TellsPlaces, Text, TookPrefix, Topology, U, Values, Why, Wish, a_bulk_run, a_drill, a_join, a_resharding, a_verification, asked_of, behind, bulk_values, command_of, distinct, end_from, first_limit, fuses_for, given, is_missing, is_planned, line_feed, message, placed, same_name, size_limit, status_of, text_of, texts, values_in, whole}
+pub use Rattle.command_words.specs.Words.{IsRefusedBy, name_of, wish_of, wish_by}
 pub use Rattle.command_words.specs.declared.asked.WordsFault.{WordsFault}
-pub use Rattle.dispatch_node.specs.Places.{IsLogOf}
-pub use Rattle.event_id.specs.declared.id.EventId.{EventId}
 pub use Rattle.gate_journal.proofs.Growth.{continues_same}
-pub use Rattle.gate_journal.specs.Images.{GoesOn, StaysAs}
 pub use Rattle.list_words.proofs.Splits.{lacks_none, split_same}
-pub use Rattle.list_words.specs.Bytes.{Lacks}
 pub use Rattle.list_words.specs.Lists.{Each}
 pub use Rattle.log_records.proofs.FirstPlaces.{found, length-one, none_found}
 pub use Rattle.log_records.proofs.Places.{lines_follow}
 pub use Rattle.log_records.proofs.Reading.{clicks_same, one_more, queries_same}
 pub use Rattle.log_records.proofs.WholeLogs.{clicks_found, clicks_right, queries_found, queries_right}
-pub use Rattle.log_records.specs.Check.{AfterWhy, IsClickLog, IsLog, IsQueryLog, NextWhy, RefusesClick, RefusesQuery}
-pub use Rattle.log_records.specs.FirstPlaces.{Keeps, Places, first_place, place_at, seen_of}
+pub use Rattle.log_records.specs.Check.{NextWhy}
+pub use Rattle.log_records.specs.FirstPlaces.{first_place, place_at, seen_of}
 pub use Rattle.log_records.specs.Line.{IsClick, IsQuery, OrMemory, click_line, query_line}
-pub use Rattle.log_records.specs.Lines.{ClickLine, end_from, placed}
-pub use Rattle.log_records.specs.Log.{AreRecords, HoldsClicks, HoldsQueries, line_feed, whole}
-pub use Rattle.log_records.specs.Report.{distinct, is_missing, text_of, totals}
-pub use Rattle.log_records.specs.declared.check.BadLine.{BadLine}
-pub use Rattle.log_records.specs.declared.check.TheConstants.{MAX_LOG}
+pub use Rattle.log_records.specs.Log.{HoldsClicks, HoldsQueries}
+pub use Rattle.log_records.specs.Report.{totals}
 pub use Rattle.log_records.specs.declared.lines.TheConstants.{MAX_LINE}
-pub use Rattle.log_records.specs.declared.records.ClickRec.{ClickRec}
-pub use Rattle.log_records.specs.declared.records.QueryRec.{QueryRec}
-pub use Rattle.log_records.specs.declared.report.ReportLine.{ReportLine}
-pub use Rattle.log_records.specs.declared.report.ReportLine.TheVariants.{U}
-pub use Rattle.log_records.specs.declared.why.Why.{Why}
 pub use Rattle.lossy_link.proofs.Outcomes.{one_outcome}
-pub use Rattle.lossy_link.specs.Fates.{PlanView}
 pub use Rattle.lossy_link.specs.Outcome.{Outcome, bad, good}
-pub use Rattle.lossy_link.specs.Plans.{HasOutcome, IsFault, IsFirstBad, IsPlanOf, size_limit}
-pub use Rattle.lossy_link.specs.declared.bad_plan.Field.{Field}
-pub use Rattle.lossy_link.specs.declared.plan.DiskKind.{DiskKind}
-pub use Rattle.lossy_link.specs.declared.plan.DiskKind.TheVariants.{Epoch, Output}
-pub use Rattle.lossy_link.specs.declared.plan.PlanStop.{PlanStop}
+pub use Rattle.lossy_link.specs.Plans.{HasOutcome, IsFault, IsFirstBad}
 pub use Rattle.mem_outside.specs.Files.{bytes_under}
-pub use Rattle.mem_outside.specs.Kept.{fuses_for, same_name}
-pub use Rattle.mem_outside.specs.Plan.{is_planned}
 pub use Rattle.mem_outside.specs.declared.disk.Fuse.{Fuse}
-pub use Rattle.outside.specs.Faults.{Counts, Rose, added}
+pub use Rattle.outside.specs.Faults.{added}
 pub use Rattle.outside.specs.Plans.{AtMost}
 pub use Rattle.outside.specs.declared.faults.ReadFault.{ReadFault}
 pub use Rattle.outside.specs.declared.faults.StoreFault.{StoreFault}
-pub use Rattle.outside.specs.declared.store.DiskName.{DiskName}
 pub use Rattle.paxos_acceptor.specs.Cells.{note_view}
 pub use Rattle.photon_cli.specs.Again.{AreCalls, AreOutputOnce, Call, IsLater, KeepsBy, setting_after, store_after}
 pub use Rattle.photon_cli.specs.Bulk.{IsBulkRun, IsBulkSetting, bulk_plan}
@@ -59,7 +40,7 @@ pub use Rattle.photon_cli.specs.CheckedLogs.{AreLines, EndsAt, IsChecked, kept}
 pub use Rattle.photon_cli.specs.Drill.{Drills, IsBadIn, IsDrilled, SparesNodes}
 pub use Rattle.photon_cli.specs.Ends.{AreObeyed, BulkEnds, DrillEnds, Ends, JoinEnds, VerifyEnds}
 pub use Rattle.photon_cli.specs.Faults.{words_status}
-pub use Rattle.photon_cli.specs.Join.{AreLogs, AreValid, BeginsJoin, HasIds, HaveIds, IsAsked, IsHeardOf, IsHistory, IsInvalid, Refuses, config_of, no_plan}
+pub use Rattle.photon_cli.specs.Join.{AreLogs, AreValid, BeginsJoin, HaveIds, IsAsked, IsHeardOf, IsHistory, IsInvalid, Refuses, config_of, no_plan}
 pub use Rattle.photon_cli.specs.LogFaults.{IsBeforeLogs, IsEarly, IsFailedRead, IsLogFault, IsOfBulk, IsOfDrill, IsOfJoin, IsOfLogs, IsOfPlanOrLogs, IsOfRun, IsOfVerify, IsPast, IsPlanFault, IsRowFault, failed_read}
 pub use Rattle.photon_cli.specs.Planned.{StopsAtMost, fuse_of, is_at, is_for, is_joiners, named_by, of_joiners, place_of, planned_for, same_kind}
 pub use Rattle.photon_cli.specs.ReadLines.{AtEnd, IsStep, SoFar, WrongNext}
@@ -75,18 +56,11 @@ pub use Rattle.photon_model.specs.EveryRun.{AfterEveryRun}
 pub use Rattle.photon_model.specs.Headline.{IsOutputOnce}
 pub use Rattle.photon_model.specs.Stores.{ReadIsChecked}
 pub use Rattle.registry_state.specs.Same.{same_batch}
-pub use Rattle.report_text.specs.Stream.{TookPrefix}
-pub use Rattle.run_fault.specs.Causes.{IsWelcome}
-pub use Rattle.run_fault.specs.Faults.{message, of_place, status_of}
-pub use Rattle.run_fault.specs.declared.fault.LogName.{LogName}
-pub use Rattle.run_fault.specs.declared.fault.LogName.TheVariants.{Clicks, Queries}
+pub use Rattle.run_fault.specs.Faults.{of_place}
 pub use Rattle.run_fault.specs.declared.fault.Mismatch.{Mismatch}
 pub use Rattle.run_fault.specs.declared.fault.Misplaced.{Misplaced}
-pub use Rattle.run_fault.specs.declared.fault.RunFault.{RunFault}
-pub use Rattle.run_fault.specs.declared.fault.StorePlace.{StorePlace}
 pub use Rattle.run_fault.specs.declared.fault.Unfit.{Unfit}
 pub use Rattle.site_laws.specs.StoreLaws.{HoldSameRecords, LeavesNothing, LongerStaysSound, SameIsSound}
-pub use Rattle.site_laws.specs.Stores.{Images, IsSoundStore}
 pub use Rattle.site_run.proofs.Counting.{rose_before}
 pub use Rattle.site_run.proofs.Earlier.{leaves_placed}
 pub use Rattle.site_run.proofs.Entered.{counted_more, left_before, place_welcome, sound_placed, welcome_where}
@@ -96,21 +70,19 @@ pub use Rattle.site_run.proofs.Planning.{all_earlier, none_of_joiners, stops_ear
 pub use Rattle.site_run.specs.Heard.{kinds_of}
 pub use Rattle.site_run.specs.Naming.{names_of}
 pub use Rattle.site_run.specs.Stops.{AllInAll, StopsAsPlanned}
-pub use Rattle.site_run.specs.Over.{EndsOver, Keeps as KeepsOver, RunsOver}
+pub use Rattle.site_run.specs.Over.{Keeps as KeepsOver, RunsOver}
 pub use Rattle.site_run.specs.Asked.{IsSettingOf}
-pub use Rattle.site_run.specs.Joined.{Joins, JoinsAfresh, RanAfresh}
-pub use Rattle.site_run.specs.Left.{RestLeft, RunLeft}
+pub use Rattle.site_run.specs.Left.{RestLeft}
 pub use Rattle.site_run.specs.Meaning.{AreLinesBy, RestJoins, RestJoinsAfresh, RestRanAfresh}
-pub use Rattle.site_run.specs.Refused.{IsCauseOf, IsLate, TellsPlaces, asked_of}
+pub use Rattle.site_run.specs.Refused.{IsLate}
 pub use Rattle.site_run.specs.declared.ran.Outcome.{Outcome as RunOutcome}
-pub use Rattle.site_run.specs.declared.ran.RunLog.{RunLog}
 pub use Rattle.site_store.proofs.Planned.{same_left}
 pub use Rattle.site_store.proofs.Causes.{cause_more, failed_rose, passed_more, unread_rose}
-pub use Rattle.site_store.specs.Causes.{AreTold, HasCause, HasFailed, HasPassed as PassesFor, IsCause, IsUnread, LeavesSomething, first_limit}
+pub use Rattle.site_store.specs.Causes.{AreTold, HasFailed, HasPassed as PassesFor, IsCause, IsUnread}
 pub use Rattle.site_store.specs.Leaving.{IsAsked as HasTopology}
 pub use Rattle.site_store.specs.Misfits.{IsFitFor, limit_at, limit_in}
 pub use Rattle.site_store.specs.Reading.{IsRead}
-pub use Rattle.site_store.specs.Records.{EpochIs, IsKept, KeepsAs, Kept, KeptDisk, KeptValues, NotesAre}
+pub use Rattle.site_store.specs.Records.{EpochIs, IsKept, KeepsAs, Kept, KeptDisk, NotesAre}
 pub use Rattle.site_store.specs.Telling.{Tells}
 pub use Rattle.site_store.specs.declared.reading.kept.KeptStore.{KeptStore}
 pub use Rattle.std.proofs.Math.Seq.{take-add, take-append-add}
@@ -123,14 +95,11 @@ pub use Rattle.std.proofs.lemmas.Slice.Eq.{slice_eq-Decides}
 pub use Rattle.std.specs.List.{AllByRecursion, flat_map, list_any}
 pub use Rattle.std.specs.Option.{IfSome, IsSomeAnd}
 pub use Rattle.std.specs.Result.{IfOk}
-pub use Rattle.tail_reader.specs.Buffered.{behind}
 pub use Rattle.tail_reader.specs.Next.{IsNext}
 pub use Rattle.time_shards.proofs.Texts.{none_bad, only_table}
-pub use Rattle.time_shards.specs.Shards.{IsTable, shard_of}
-pub use Rattle.time_shards.specs.declared.ShardRow.{ShardRow}
+pub use Rattle.time_shards.specs.Shards.{shard_of}
 pub use Rattle.topology_journal.specs.Topologies.{Keeps as KeepsTopology}
-pub use Rattle.topology_journal.specs.declared.topology.Topology.{Topology, Topology as KeptTopology}
-pub use Rattle.turn_defs.specs.Setting.{Checked, Setting}
+pub use Rattle.topology_journal.specs.declared.topology.Topology.{Topology as KeptTopology}
 pub use Rattle.turn_defs.specs.declared.node.Node.{Node}
 pub use Rattle.turn_defs.specs.declared.pair.PairRec.{PairRec}
 pub use Rattle.turn_defs.specs.declared.config.Config.{Config}

@@ -1,14 +1,10 @@
 -- Call after call over one store.
 use Rattle.std.specs.Prelude.{◌≡◌, ◌≢◌, ◌⊎◌, ℕ, List, [], ◌∷◌, Bool, IsTrue, Option, ⊤}
-use Rattle.turn_defs.specs.Setting.{Setting}
-use Rattle.time_shards.specs.declared.ShardRow.{ShardRow}
+use Rattle.photon_cli.specs.Terms.{Bytes, Disks, HoldsRecords, Images, IsChoice, Setting, ShardRow, Wish, a_join, a_resharding, opening}
 use Rattle.photon_model.specs.Adding.{with_row}
 use Rattle.photon_model.specs.Headline.{IsOutputOnce}
-use Rattle.photon_model.specs.Runs.{Disks, opening}
 use Rattle.photon_model.specs.Stores.{IsLonger}
-use Rattle.site_laws.specs.Stores.{Bytes, HoldsRecords, Images, IsChoice}
 use Rattle.site_run.specs.Over.{Keeps}
-use Rattle.command_words.specs.Words.{Wish, a_join, a_resharding}
 use Rattle.photon_cli.specs.Join.{IsAsked}
 use Rattle.photon_cli.specs.Reshard.{IsRowOf}
 use Rattle.photon_cli.specs.declared.engine.run.TheConstants.{REPLICAS}

@@ -1,17 +1,11 @@
 -- What a bulk run does: both logs are made from a seed, both sites run over them as in a drill, and the totals line is told.
 use Rattle.std.specs.Prelude.{ℕ, ◌≡◌, List, [], ◌∷◌, ◌++◌, Option, None, IfSome, IsSomeAnd}
-use Rattle.lossy_link.specs.Fates.{PlanView}
+use Rattle.photon_cli.specs.Terms.{BulkValues, PlanView, ReportLine, RunLog, Setting, TookPrefix, placed}
 use Rattle.lossy_link.specs.declared.plan.Fate.{Fate}
 use Rattle.lossy_link.specs.declared.plan.Fate.TheVariants.{Drop, Twice}
 use Rattle.lossy_link.specs.declared.plan.Rule.{Rule}
-use Rattle.log_records.specs.Lines.{placed}
-use Rattle.turn_defs.specs.Setting.{Setting}
 use Rattle.bulk_logs.specs.Bulk as logs
-use Rattle.log_records.specs.declared.report.ReportLine.{ReportLine}
-use Rattle.report_text.specs.Stream.{TookPrefix}
 use Rattle.photon_cli.specs.Join.{IsHeardOf, config_of}
-use Rattle.site_run.specs.declared.ran.RunLog.{RunLog}
-use Rattle.command_words.specs.Words.{BulkValues}
 use Rattle.photon_cli.specs.Drill.{IsDrilled}
 use Rattle.photon_cli.specs.Words.{HasTable, IsTextOf}
 

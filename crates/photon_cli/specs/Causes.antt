@@ -1,14 +1,8 @@
 -- Why a verification gives up, by what a stop might have left of the disks before, and what they may have kept.
 use Rattle.std.specs.Prelude.{◌≡◌, ◌≢◌, ℕ, List, true, Option, None, IsSomeAnd, ⊤}
-use Rattle.turn_defs.specs.Setting.{Setting}
-use Rattle.run_fault.specs.declared.fault.RunFault.{RunFault}
-use Rattle.command_words.specs.Words.{Text}
-use Rattle.dispatch_node.specs.Places.{IsLogOf}
+use Rattle.photon_cli.specs.Terms.{HasCause, Images, IsLogOf, Kept, KeptValues, PlacesFit, RunFault, Setting, TellsPlaces, Text, asked_of, first_limit}
 use Rattle.site_store.specs.Misfits.{IsFit}
-use Rattle.site_laws.specs.Stores.{Images}
-use Rattle.site_store.specs.Records.{KeptValues}
-use Rattle.site_store.specs.Causes.{HasCause, HasPassed as PassesFor, first_limit}
-use Rattle.site_run.specs.Refused.{asked_of, Kept, PlacesFit, TellsPlaces}
+use Rattle.site_store.specs.Causes.{HasPassed as PassesFor}
 use Rattle.photon_cli.specs.declared.engine.run.TheConstants.{REPLICAS}
 
 -- whatever the disks kept, no epoch, round or slot is at its limit

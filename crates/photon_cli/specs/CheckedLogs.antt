@@ -1,9 +1,6 @@
 -- What the check of a log answers.
 use Rattle.std.specs.Prelude.{ℕ, ◌≡◌, List, [], length, map, Bool, if◌then◌else◌}
-use Rattle.event_id.specs.declared.id.EventId.{EventId}
-use Rattle.log_records.specs.Lines.{ClickLine, HoldsLines, end_from}
-use Rattle.log_records.specs.Log.{whole}
-use Rattle.log_records.specs.Check.{IsLog}
+use Rattle.photon_cli.specs.Terms.{ClickLine, EventId, HoldsLines, IsLog, end_from, whole}
 use Rattle.photon_cli.specs.ReadLines.{AtEnd}
 use Rattle.photon_cli.specs.declared.log_check.lines.Lines.{Lines}
 

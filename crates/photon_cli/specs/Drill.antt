@@ -2,24 +2,14 @@
 use Rattle.std.specs.Prelude.{ℕ, ◌≡◌, ◌≤◌, Bool, false, List, ◌++◌, map, Option, IfSome, IsSomeAnd, IsTrue}
 use Rattle.std.specs.List.{list_any}
 use Rattle.list_words.specs.Lists.{Each}
-use Rattle.time_shards.specs.declared.ShardRow.{ShardRow}
-use Rattle.lossy_link.specs.declared.plan.PlanStop.{PlanStop}
-use Rattle.lossy_link.specs.Fates.{PlanView}
-use Rattle.lossy_link.specs.Plans.{IsPlanOf, IsFirstBad}
-use Rattle.lossy_link.specs.declared.bad_plan.Field.{Field}
-use Rattle.log_records.specs.Lines.{ClickLine}
-use Rattle.log_records.specs.declared.report.ReportLine.{ReportLine}
+use Rattle.photon_cli.specs.Terms.{ClickLine, Field, IsPlanOf, PlanStop, PlanView, RanAfresh, ReportLine, RunLog, Setting, ShardRow, Text, TookPrefix, Values}
+use Rattle.lossy_link.specs.Plans.{IsFirstBad}
 use Rattle.log_records.specs.Report as logs
-use Rattle.report_text.specs.Stream.{TookPrefix}
-use Rattle.turn_defs.specs.Setting.{Setting}
 use Rattle.turn_defs.specs.declared.node.Node.{Node}
 use Rattle.photon_cli.specs.Planned.{StopsAtMost, is_joiners}
-use Rattle.site_run.specs.Joined.{RanAfresh}
 use Rattle.site_run.specs.Naming.{names_of}
 use Rattle.site_run.specs.Stops.{AllInAll, StopsAsPlanned}
-use Rattle.site_run.specs.declared.ran.RunLog.{RunLog}
 use Rattle.photon_cli.specs.Join.{AreValid, IsAsked, IsHeardOf, config_of}
-use Rattle.command_words.specs.Words.{Text, Values}
 use Rattle.photon_cli.specs.Words.{HasTable}
 
 -- These are the lines of the report of a run from nothing under this plan, and that is its history: no node has stopped more often in it

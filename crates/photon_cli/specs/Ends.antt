@@ -1,24 +1,8 @@
 -- How each command ends, by its exit status.
 use Rattle.std.specs.Prelude.{ℕ, ◌≡◌, ◌≢◌, ◌⊎◌, List, Bool, true, false, Option, IfSome, IsSomeAnd, IsTrue}
-use Rattle.outside.specs.declared.store.DiskName.{DiskName}
-use Rattle.time_shards.specs.declared.ShardRow.{ShardRow}
-use Rattle.time_shards.specs.Text.{IsFirstBad}
-use Rattle.lossy_link.specs.Fates.{PlanView}
-use Rattle.lossy_link.specs.declared.bad_plan.Field.{Field}
-use Rattle.command_words.specs.Words.{BulkValues, Text, Values, Wish, a_bulk_run, a_drill, a_join, a_resharding, a_verification}
-use Rattle.log_records.specs.declared.check.BadLine.{BadLine}
-use Rattle.run_fault.specs.declared.fault.LogName.{LogName}
-use Rattle.turn_defs.specs.Setting.{Setting}
-use Rattle.log_records.specs.Check.{RefusesClick}
-use Rattle.gate_journal.specs.Images.{StaysAs}
-use Rattle.site_laws.specs.Stores.{Images, IsSoundStore}
-use Rattle.site_store.specs.Causes.{LeavesSomething}
-use Rattle.site_run.specs.declared.ran.RunLog.{RunLog}
-use Rattle.site_run.specs.Over.{IsIdle, Keeps}
-use Rattle.site_run.specs.Refused.{HasPassed, IsTaken, WasJournal}
-use Rattle.run_fault.specs.declared.fault.RunFault.{RunFault}
+use Rattle.photon_cli.specs.Terms.{BadLine, BulkValues, DiskName, Field, HasPassed, Images, IsFirstBad, IsIdle, IsSoundStore, IsTaken, LeavesSomething, LogName, PlanView, RefusesClick, RunFault, RunLog, Setting, ShardRow, StaysAs, Text, Values, WasJournal, Wish, a_bulk_run, a_drill, a_join, a_resharding, a_verification, status_of}
+use Rattle.site_run.specs.Over.{Keeps}
 use Rattle.photon_cli.specs.Causes.{AreMisplaced, CanBeRead, IsAtLimit, IsBelowLimits, IsMismatched, IsOverLog, unasked}
-use Rattle.run_fault.specs.Faults.{status_of}
 use Rattle.photon_cli.specs.Bulk.{BeginsBulk, IsBulkRun, PrintsTotals, PrintsTotalsPrefix}
 use Rattle.photon_cli.specs.Drill.{BeginsDrill, HasDrilled, IsBadIn, IsPlanIn, PrintsDrill, PrintsDrillPrefix, SparesNodes}
 use Rattle.photon_cli.specs.Join.{AreValid, BeginsJoin, HasRun, IsAsked, IsHistory, IsInvalid, Prints, PrintsAfresh, PrintsPrefix, Refuses, no_plan}

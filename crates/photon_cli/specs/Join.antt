@@ -1,28 +1,10 @@
 -- What a join of two logs over a store does.
 use Rattle.std.specs.Prelude.{ℕ, ◌≡◌, List, [], ◌++◌, map, Bool, Option, None, IfSome, IsSomeAnd, IsTrue}
-use Rattle.lossy_link.specs.Fates.{PlanView}
-use Rattle.time_shards.specs.declared.ShardRow.{ShardRow}
-use Rattle.event_id.specs.declared.id.EventId.{EventId}
-use Rattle.log_records.specs.declared.records.QueryRec.{QueryRec}
-use Rattle.log_records.specs.declared.records.ClickRec.{ClickRec}
-use Rattle.log_records.specs.declared.check.BadLine.{BadLine}
-use Rattle.log_records.specs.Check.{IsQueryLog, IsClickLog, RefusesQuery, RefusesClick}
-use Rattle.log_records.specs.Lines.{ClickLine, end_from}
-use Rattle.log_records.specs.declared.report.ReportLine.{ReportLine}
-use Rattle.log_records.specs.Report.{text_of}
-use Rattle.report_text.specs.Stream.{TookPrefix}
-use Rattle.run_fault.specs.declared.fault.LogName.{LogName}
-use Rattle.run_fault.specs.declared.fault.LogName.TheVariants.{Queries, Clicks}
-use Rattle.turn_defs.specs.Setting.{Setting}
+use Rattle.photon_cli.specs.Terms.{BadLine, ClickLine, ClickRec, Clicks, EventId, Images, IsClickLog, IsQueryLog, IsSoundStore, Joins, JoinsAfresh, LogName, NodeValues, PlanView, Queries, QueryRec, RefusesClick, RefusesQuery, ReportLine, RunLeft, RunLog, Setting, ShardRow, TookPrefix, Values, end_from, text_of}
 use Rattle.turn_defs.specs.declared.config.Config.{Config}
-use Rattle.site_laws.specs.Stores.{Images, IsSoundStore}
 use Rattle.site_laws.specs.StoreLaws.{LeavesNothing}
 use Rattle.site_run.specs.Asked.{IsSettingOf}
-use Rattle.site_run.specs.Joined.{Joins, JoinsAfresh}
-use Rattle.site_run.specs.Left.{RunLeft}
 use Rattle.site_run.specs.Heard as site
-use Rattle.site_run.specs.declared.ran.RunLog.{RunLog}
-use Rattle.command_words.specs.Words.{NodeValues, Values}
 use Rattle.photon_cli.specs.Words.{HasTable, IsTextOf}
 use Rattle.photon_cli.specs.declared.engine.run.TheConstants.{REPLICAS}
 
@@ -45,12 +27,6 @@ module _ (told : List ℕ → Option (List ℕ)) (queries clicks : List ℕ) whe
   abbrev pub IsInvalid : LogName → Type 0
   IsInvalid Queries = IsSomeAnd (told queries) (λ log. (qs : List QueryRec) → IsQueryLog log qs → ⊥)
   IsInvalid Clicks = IsSomeAnd (told queries) (λ log. (qs : List QueryRec) × IsQueryLog log qs) × IsSomeAnd (told clicks) (λ log. (cs : List ClickRec) → IsClickLog log cs → ⊥)
-
--- the log holds clicks, which have these ids
-pub record HasIds (log : List ℕ) (ids : List EventId) : Type 0 where
-  pub clicks : List ClickRec
-  pub holds : IsClickLog log clicks
-  pub are : ids ≡ map (λ (c : ClickRec). c.id) clicks
 
 -- the setting's clicks have these ids
 abbrev pub HaveIds : Setting → List EventId → Type 0

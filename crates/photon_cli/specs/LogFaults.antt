@@ -1,13 +1,6 @@
 -- Why a command gives up.
 use Rattle.std.specs.Prelude.{ℕ, ◌≡◌, ◌⊎◌, ⊤}
-use Rattle.log_records.specs.declared.why.Why.{Why}
-use Rattle.lossy_link.specs.declared.bad_plan.Field.{Field}
-use Rattle.time_shards.specs.Text.{IsFirstBad}
-use Rattle.command_words.specs.Words.{Text}
-use Rattle.run_fault.specs.declared.fault.LogName.{LogName}
-use Rattle.run_fault.specs.declared.fault.LogName.TheVariants.{Queries}
-use Rattle.run_fault.specs.Causes.{IsCounted}
-use Rattle.run_fault.specs.declared.fault.RunFault.{RunFault}
+use Rattle.photon_cli.specs.Terms.{Field, IsCounted, IsFirstBad, LogName, Queries, RunFault, Text, Why}
 use Rattle.run_fault.specs.declared.fault.RunFault.TheVariants as fault
 use Rattle.photon_cli.specs.Words.{HasTable}
 

@@ -1,13 +1,9 @@
 -- The stops that a plan has for a disk.
 use Rattle.std.specs.Prelude.{ℕ, ◌+◌, ◌*◌, ◌==◌, ◌&&◌, nat_lt, Bool, true, false, if◌then◌else◌, List, map, filter, Option, Some, None}
-use Rattle.outside.specs.declared.store.DiskName.{DiskName}
+use Rattle.photon_cli.specs.Terms.{DiskKind, DiskName, Epoch, Offset, Output, PlanStop, Replica, Retry, Server, is_planned}
 use Rattle.outside.specs.declared.store.DiskName.TheVariants as name
 use Rattle.outside.specs.Plans.{AtMost}
-use Rattle.mem_outside.specs.Plan.{is_planned}
 use Rattle.mem_outside.specs.declared.disk.Fuse.{Fuse}
-use Rattle.lossy_link.specs.declared.plan.DiskKind.{DiskKind}
-use Rattle.lossy_link.specs.declared.plan.DiskKind.TheVariants.{Offset, Retry, Server, Replica, Epoch, Output}
-use Rattle.lossy_link.specs.declared.plan.PlanStop.{PlanStop}
 use Rattle.photon_cli.specs.declared.engine.run.TheConstants.{REPLICAS}
 
 abbrev pub same_kind : DiskKind → DiskKind → Bool

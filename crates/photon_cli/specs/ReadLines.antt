@@ -1,15 +1,8 @@
 -- What was read of a log, and what its next line came to.
 use Rattle.std.specs.Prelude.{ℕ, ◌≡◌, ◌+◌, ◌<◌, ◌≤◌, List, [], ◌∷◌, ◌++◌, length, map}
 use Rattle.std.specs.List.{AllByRecursion}
-use Rattle.event_id.specs.declared.id.EventId.{EventId}
-use Rattle.list_words.specs.Bytes.{Lacks}
-use Rattle.tail_reader.specs.Buffered.{behind}
-use Rattle.log_records.specs.declared.check.TheConstants.{MAX_LOG}
-use Rattle.log_records.specs.declared.why.Why.{Why}
+use Rattle.photon_cli.specs.Terms.{AfterWhy, AreRecords, EventId, Keeps, Lacks, MAX_LOG, Places, Why, behind, line_feed, whole}
 use Rattle.log_records.specs.Line.{OrMemory}
-use Rattle.log_records.specs.Log.{line_feed, whole, AreRecords}
-use Rattle.log_records.specs.Check.{AfterWhy}
-use Rattle.log_records.specs.FirstPlaces.{Places, Keeps}
 use Rattle.photon_cli.specs.declared.log_check.step.Step.{Step}
 use Rattle.photon_cli.specs.declared.log_check.step.Step.TheVariants.{Line, End, Wrong}
 

@@ -1,23 +1,10 @@
 -- How a resharding ends, by its exit status.
 use Rattle.std.specs.Prelude.{ℕ, ◌≡◌, ◌≢◌, ◌⊎◌, List, ◌++◌, Bool, true, IsTrue, Some, Ok, Err, codes, ⊤}
-use Rattle.outside.specs.declared.store.DiskName.{DiskName}
-use Rattle.time_shards.specs.declared.ShardRow.{ShardRow}
-use Rattle.time_shards.specs.Shards.{IsRow}
-use Rattle.time_shards.specs.Text.{row_text, table_text}
-use Rattle.report_text.specs.Stream.{TookPrefix}
-use Rattle.command_words.specs.Words.{Text}
-use Rattle.topology_journal.specs.declared.topology.Topology.{Topology}
-use Rattle.turn_defs.specs.Setting.{Setting}
-use Rattle.run_fault.specs.declared.fault.RunFault.{RunFault}
+use Rattle.photon_cli.specs.Terms.{AreKept, DiskName, Images, IsRow, IsSoundStore, IsTaken, KeptValues, LeavesSomething, RunFault, Setting, ShardRow, Text, TookPrefix, Topology, WasJournal, first_limit, row_text, status_of, table_text}
 use Rattle.run_fault.specs.declared.fault.RunFault.TheVariants as fault
-use Rattle.run_fault.specs.Faults.{status_of}
-use Rattle.site_laws.specs.Stores.{Images, IsSoundStore}
 use Rattle.site_store.specs.Adding.{Answers, HasRow as KeepsRow, IsAdded, Leaves, accepted, answer_to}
-use Rattle.site_store.specs.Causes.{LeavesSomething, first_limit}
 use Rattle.site_store.specs.Opening.{IsDamagedIn}
-use Rattle.site_store.specs.Records.{AreKept, KeptValues}
 use Rattle.site_store.specs.Refusals.{IsFirstDisk}
-use Rattle.site_run.specs.Refused.{IsTaken, WasJournal}
 use Rattle.photon_cli.specs.Causes.{IsAtLimit, IsBelowLimits, unasked}
 use Rattle.photon_cli.specs.Told.{TellsBy}
 use Rattle.photon_cli.specs.declared.engine.run.TheConstants.{REPLICAS}

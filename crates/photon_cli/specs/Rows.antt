@@ -1,12 +1,9 @@
 -- Worked places of disks, and worked stops.
 use Rattle.std.specs.Prelude.{◌≡◌, ℕ, List, [], ◌∷◌, Option, Some, None}
 use Rattle.outside.specs.declared.store.DiskName.TheVariants as name
-use Rattle.lossy_link.specs.declared.plan.DiskKind.{DiskKind}
-use Rattle.lossy_link.specs.declared.plan.DiskKind.TheVariants.{Retry, Replica, Epoch, Output}
+use Rattle.photon_cli.specs.Terms.{DiskKind, Epoch, Output, PlanStop, Replica, Retry, Values}
 use Rattle.outside.specs.declared.image.Image.{Image}
 use Rattle.outside.specs.declared.image.Image.TheVariants.{Old, New, Noise}
-use Rattle.lossy_link.specs.declared.plan.PlanStop.{PlanStop}
-use Rattle.command_words.specs.Words.{Values}
 use Rattle.photon_cli.specs.Planned.{place_of, planned_for}
 use Rattle.photon_cli.specs.Drill.{SparesNodes}
 

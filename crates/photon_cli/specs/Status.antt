@@ -1,8 +1,6 @@
 -- The exit status, by the counts of faults and by what went out.
 use Rattle.std.specs.Prelude.{ℕ, ◌≡◌, ◌≢◌, ◌⊎◌, List, Bool, IsTrue}
-use Rattle.outside.specs.Faults.{Counts}
-use Rattle.run_fault.specs.declared.fault.RunFault.{RunFault}
-use Rattle.run_fault.specs.Faults.{status_of}
+use Rattle.photon_cli.specs.Terms.{Counts, RunFault, status_of}
 
 -- It is 0, 1 or that of a fault. The counts of faults of the files and of the output never fall; 4 comes only where the first rose, and 5
 -- where the second did. At any status but 0, 1 and 5 nothing goes out.

@@ -1,19 +1,10 @@
 -- What the program tells on standard error.
 use Rattle.std.specs.Prelude.{ℕ, ◌≡◌, ◌⊎◌, List, ◌++◌, Bool, IsTrue, Option, IfSome, IsSomeAnd, ⊤}
-use Rattle.log_records.specs.Check.{RefusesClick}
-use Rattle.command_words.specs.Words.{BulkValues, Text, Values}
-use Rattle.run_fault.specs.declared.fault.LogName.TheVariants.{Queries, Clicks}
-use Rattle.time_shards.specs.Text.{IsFirstBad}
-use Rattle.turn_defs.specs.Setting.{Setting}
-use Rattle.site_laws.specs.Stores.{Images}
-use Rattle.run_fault.specs.declared.fault.RunFault.{RunFault}
+use Rattle.photon_cli.specs.Terms.{BulkValues, Clicks, Images, IsCauseOf, IsFirstBad, NamesFailed, Queries, RefusesClick, RunFault, RunLog, Setting, Text, Values, message, status_of}
 use Rattle.run_fault.specs.declared.fault.RunFault.TheVariants as fault
 use Rattle.photon_cli.specs.Drill.{IsBadIn}
-use Rattle.site_run.specs.Refused.{IsCauseOf, NamesFailed}
-use Rattle.site_run.specs.declared.ran.RunLog.{RunLog}
 use Rattle.photon_cli.specs.Causes.{HasCauseInVerify, IsOverLog}
 use Rattle.photon_cli.specs.Join.{IsAsked, Refuses}
-use Rattle.run_fault.specs.Faults.{status_of, message}
 
 -- nothing is told at status 0, else the text of a fault of this status that is named so
 abbrev pub TellsBy : (RunFault → Type 0) → ℕ → List ℕ → List ℕ → Type 0

@@ -2,25 +2,14 @@
 use Rattle.std.specs.Prelude.{ℕ, ◌≡◌, List, ◌++◌, map, Bool, None, Some, Option, IsSomeAnd}
 use Rattle.std.specs.List.{list_any}
 use Rattle.outside.specs.declared.store.DiskName.TheVariants as name
-use Rattle.log_records.specs.declared.records.ClickRec.{ClickRec}
-use Rattle.log_records.specs.Check.{IsClickLog}
-use Rattle.log_records.specs.declared.report.ReportLine.{ReportLine}
-use Rattle.log_records.specs.declared.report.ReportLine.TheVariants.{U}
-use Rattle.log_records.specs.Report.{distinct, is_missing, text_of}
-use Rattle.report_text.specs.Stream.{TookPrefix}
-use Rattle.topology_journal.specs.declared.topology.Topology.{Topology}
+use Rattle.photon_cli.specs.Terms.{AreLeft, ClickRec, Images, IsClickLog, IsKeptIn, IsLogOf, ReportLine, Setting, Text, TookPrefix, Topology, U, distinct, is_missing, text_of}
 use Rattle.topology_journal.specs.Topologies.{Keeps as KeepsTopology}
-use Rattle.turn_defs.specs.Setting.{Setting}
-use Rattle.dispatch_node.specs.Places.{IsLogOf}
 use Rattle.photon_model.specs.Report.{report}
-use Rattle.gate_journal.specs.Images.{IsKeptIn}
 use Rattle.photon_model.specs.Topology.{Store}
 use Rattle.photon_model.specs.Verification.{AreOf}
-use Rattle.site_laws.specs.Stores.{AreLeft, Images}
 use Rattle.site_store.specs.declared.reading.kept.KeptStore.{KeptStore}
 use Rattle.site_store.specs.Telling.{Tells}
 use Rattle.verify_pass.specs.declared.journals.Journals.{Journals}
-use Rattle.command_words.specs.Words.{Text}
 use Rattle.photon_cli.specs.declared.engine.run.TheConstants.{REPLICAS}
 
 -- the setting is over the clicks of this log, and has the topology that the store keeps

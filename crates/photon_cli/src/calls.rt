@@ -1,18 +1,9 @@
 // What follows from how calls end.
 ghost use Rattle.std.specs.Prelude.{◌≡◌, ◌<◌, ◌+◌, ℕ, List, [], IsTrue, Some};
-ghost use Rattle.outside.specs.declared.store.DiskName.{DiskName};
-ghost use Rattle.outside.specs.Faults.{Rose};
-ghost use Rattle.lossy_link.specs.Fates.{PlanView};
-ghost use Rattle.command_words.specs.Words.{Wish};
-ghost use Rattle.gate_journal.specs.Images.{GoesOn};
-ghost use Rattle.turn_defs.specs.Setting.{Checked, Setting};
-ghost use Rattle.photon_model.specs.Runs.{Disks};
-ghost use Rattle.site_laws.specs.Stores.{AreAllLeft, Bytes, HoldsRecords, IsSoundStore};
+ghost use Rattle.photon_cli.specs.Terms.{AreAllLeft, Bytes, Checked, DiskName, Disks, GoesOn, HasRun, HoldsRecords, IsSoundStore, PlanView, Rose, RunLog, Setting, Wish};
 ghost use Rattle.site_laws.specs.Laws.{made_by};
 ghost use Rattle.photon_cli.specs.Join.{IsHeardOf};
-ghost use Rattle.site_run.specs.Left.{HasRun};
 ghost use Rattle.site_run.specs.declared.ran.Ran.{Ran};
-ghost use Rattle.site_run.specs.declared.ran.RunLog.{RunLog};
 ghost use Rattle.photon_cli.specs.Again.{AreCalls, AreOutputOnce, Call, KeepsBy, setting_after, store_after};
 ghost use Rattle.photon_cli.specs.Ends.{Ends};
 ghost use Rattle.photon_cli.specs.Join.{IsHistory};

@@ -1,7 +1,6 @@
 // What is told on standard error.
 ghost use Rattle.std.specs.Prelude.{◌≡◌, ◌++◌, IsTrue};
-ghost use Rattle.outside.specs.Faults.{Rose};
-ghost use Rattle.run_fault.specs.Faults.{status_of, message};
+ghost use Rattle.photon_cli.specs.Terms.{Rose, message, status_of};
 
 use clap::Error;
 use outside::Sink;

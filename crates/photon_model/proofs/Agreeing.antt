@@ -1,16 +1,15 @@
 -- Each entry keeps the facts on ballots, and gives what the other facts need of Paxos; so all facts hold after every run.
-use Rattle.std.proofs.Common.{◌≡◌, ◌⊎◌, inl, inr, ⊎_elim, ℕ, zero, suc, ◌<◌, ◌≤◌, max, ◌==◌, List, [], ◌∷◌, ◌++◌, length, get_or, Some, None, refl, sym, ap, ◌∙◌, subst, arith}
-use Rattle.std.specs.Prelude.{Option, slice_get}
+use Rattle.std.proofs.Common.{◌≡◌, ◌⊎◌, inl, inr, ⊎_elim, ℕ, zero, suc, ◌<◌, ◌≤◌, max, ◌==◌, List, [], ◌∷◌, ◌++◌, length, get_or, Some, None, refl, sym, ap, ◌∙◌, subst, arith, Option, slice_get}
 use Rattle.std.proofs.lemmas.Bool.{cond-true, cond-false, eq-eqb, ne_eqb}
 use Rattle.photon_model.proofs.Worlds.{row_by}
-use Rattle.photon_model.proofs.Words.{Out, dispatcher_start, joiner_start, EventId, Token, Ballot, Insert, Batch, same_batch, at, Mem, Each, Begins, set_at, IsGranted, bound_of, holder, Setting, Checked, IsJoiner, Packet, Join, Joined, Claim, Reply, Node, Dispatcher, Server, Replica, Joiner, To, Sent, Input, Start, Own, Tick, Deliver, Place, Vote, acceptance, vote_at, votes_at, votes_in, Has, Promised, Took, HasAccepted, OneChosen, agreed_one, decided_grows, BallotNote, Note, Voted, idle, land, DispatcherKept, DispatcherLive, dispatcher_turn, JoinerKept, JoinerLive, Flight, joiner_turn, ServerKept, ServerLive, land_server, server_turn, ReplicaKept, land_replica, replica_turn, each_at, mem_left, mem_right, mem_split, at_set, at_set_if, one_granted, holder_granted, holder_first, bound_stays, Addressed, journals, ReplicasSound, Offer, Votes, offer, VotesOf, VotesOfServer, VotesAgree, values_of, IsWritten, Sound, IfUp, IfOpen, known, ServerHolds, WorldHolds, World, Entry, Begin, End, Stop, Disks, disks, begun, ended, stopped, dispatcher_row, server_row, replica_row, joiner_row, sends, after, world_after, WasSent, May, IsRun, opening, decided_in, NoJoinerStops, IsBoundOk, HasBounds, IsFlying, IsResolved, IsChosenNow, PaxosGives, Cell}
+use Rattle.photon_model.proofs.Words.{Out, dispatcher_start, joiner_start, EventId, Token, Ballot, Insert, Batch, same_batch, at, Mem, Each, Begins, set_at, IsGranted, bound_of, holder, Setting, Checked, IsJoiner, Packet, Join, Joined, Claim, Reply, Node, Dispatcher, Server, Replica, Joiner, To, Sent, Input, Own, Deliver, Place, Vote, acceptance, vote_at, votes_at, votes_in, Has, Promised, Took, HasAccepted, OneChosen, agreed_one, decided_grows, BallotNote, Note, Voted, idle, land, DispatcherKept, DispatcherLive, dispatcher_turn, JoinerKept, JoinerLive, Flight, joiner_turn, ServerKept, ServerLive, land_server, server_turn, ReplicaKept, land_replica, replica_turn, each_at, mem_left, mem_right, mem_split, at_set, at_set_if, holder_granted, holder_first, bound_stays, Addressed, journals, ReplicasSound, Offer, Offered, Votes, note_writes, offer, VotesOf, VotesOfServer, VotesAgree, values_of, IsWritten, Sound, IfUp, IfOpen, known, ServerHolds, WorldHolds, World, Entry, Begin, End, Stop, Disks, disks, begun, ended, stopped, dispatcher_row, server_row, replica_row, joiner_row, sends, after, world_after, WasSent, May, IsRun, opening, decided_in, NoJoinerStops, IsBoundOk, HasBounds, IsFlying, IsResolved, IsChosenNow, PaxosGives, Cell}
 use Rattle.photon_model.proofs.DispatcherRows.{each_packet as each_join}
 use Rattle.photon_model.proofs.JoinerRows.{each_packet}
 use Rattle.photon_model.specs.Journals.{decided}
 use Rattle.photon_model.proofs.Journals.{journals_length, journal_of, journals_noted, accepted_note, accepted_stands, exact, decided_accepted}
 use Rattle.photon_model.specs.Voting.{votes, BallotsHold}
 use Rattle.photon_model.proofs.Growth.{begins_self}
-use Rattle.photon_model.proofs.Voting.{with_note, MayNote, ReplicaVotes, offering, ServerVotes, sent, votes_sent, owned_sent, server_sent, votes_written, server_written, writes_note, agree_noted, idles, gets_votes}
+use Rattle.photon_model.proofs.Voting.{with_note, MayNote, ReplicaVotes, offering, ServerVotes, sent, votes_sent, owned_sent, server_sent, votes_written, server_written, agree_noted, idles, gets_votes}
 use Rattle.photon_model.proofs.Proposing.{chosen_now, turn_votes}
 use Rattle.photon_model.proofs.Lifting.{if_up}
 use Rattle.photon_model.proofs.Running.{step, opens}
@@ -40,10 +39,9 @@ joiner_row_plain g j c = row_by joiner_start (joiner_turn g j) c.kept c.live c.o
 
 -- packets of a row, as they were sent
 addressed_votes : (g : Setting) (n : Votes) (from : Node) (as_ : List (To × Packet)) (ps : List (Node × Packet)) → Addressed g as_ ps → Each (λ (a : To × Packet). VotesOf n from a.1) as_ → (x : Sent) → Mem x (sends from ps) → VotesOf n x.from x.packet
-addressed_votes g n from [] [] a h x m = absurd m
 addressed_votes g n from [] (p ∷ ps) a h x m = absurd a
-addressed_votes g n from (b ∷ as_) [] a h x m = absurd m
 addressed_votes g n from (b ∷ as_) (p ∷ ps) a h x k = grind (arith, addressed_votes g n from as_ ps a.1 h.1 x)
+addressed_votes g n from _ [] a h x m = absurd m
 
 -- what holds of ballots, over votes that are the world's
 held : (g : Setting) (v : World) (offered : List Offer) (n : Votes) → votes g v offered ≡ n → VotesAgree n → ((x : Sent) → Mem x v.sent → VotesOf n x.from x.packet) → ((s : ℕ) → s < 2 → IfUp (VotesOfServer n s (v.servers s).kept.epoch) (v.servers s).live) → BallotsHold g v offered
@@ -83,9 +81,7 @@ module _ (g : Setting) (w : World) (offered : List Offer) (holds : BallotsHold g
 
     -- the votes are those with its note
     votes_then : (o : Option Note) → c.kept ≡ land land_replica o (w.replicas r).kept → MayNote now r o → votes g with_replica offered ≡ with_note now r o
-    votes_then None e may = grind arith
-    votes_then (Some (Voted x)) e may = grind (arith, journals_noted, set_here, cond-false, ne_eqb)
-    votes_then _ e may = absurd may
+    votes_then h e may = grind (arith, journals_noted, set_here)
 
     agree_then : (o : Option Note) → MayNote now r o → VotesAgree (with_note now r o)
     agree_then None may = holds.agree
@@ -94,18 +90,18 @@ module _ (g : Setting) (w : World) (offered : List Offer) (holds : BallotsHold g
 
     packets_then : (o : Option Note) → MayNote now r o → (from : Node) (p : Packet) → VotesOf now from p → VotesOf (with_note now r o) from p
     packets_then None may from p h = h
-    packets_then (Some (Voted x)) may from p h = votes_written now _ (writes_note now holds.agree r within x may) from p h
+    packets_then (Some (Voted x)) may from p h = votes_written now _ (λ q. note_writes (Offered now) now.journals r x q within (may.0 q)) from p h
     packets_then _ may from p h = absurd may
 
     servers_then : (o : Option Note) → MayNote now r o → (s e : ℕ) (l : ServerLive) → VotesOfServer now s e l → VotesOfServer (with_note now r o) s e l
     servers_then None may s e l h = h
-    servers_then (Some (Voted x)) may s e l h = server_written now _ (writes_note now holds.agree r within x may) s e l h
+    servers_then (Some (Voted x)) may s e l h = server_written now _ (λ q. note_writes (Offered now) now.journals r x q within (may.0 q)) s e l h
     servers_then _ may s e l h = absurd may
 
     -- what is decided stays
     decided_then : (o : Option Note) → MayNote now r o → (s : ℕ) → Begins (decided now.journals s) (decided (with_note now r o).journals s)
     decided_then None may s = begins_self (decided now.journals s)
-    decided_then (Some (Voted x)) may s = decided_grows same_batch exact holds.agree.agree (agree_noted now holds.agree r within x may).agree (writes_note now holds.agree r within x may) s
+    decided_then (Some (Voted x)) may s = decided_grows same_batch exact holds.agree.agree (agree_noted now holds.agree r within x may).agree (λ q. note_writes (Offered now) now.journals r x q within (may.0 q)) s
     decided_then _ may s = absurd may
 
     replica_then : (o : Option Note) → c.kept ≡ land land_replica o (w.replicas r).kept → MayNote now r o → ((x : Sent) → Mem x more → VotesOf (with_note now r o) x.from x.packet) → BallotsHold g with_replica offered × ((s : ℕ) → Begins (decided_in g w s) (decided_in g with_replica s))
@@ -156,9 +152,7 @@ module _ (g : Setting) (w : World) (offered : List Offer) (holds : BallotsHold g
 
       turn : (i : Input) → WasSent w.sent (Replica r) i → ReplicaVotes now r (replica_turn (w.replicas r).kept i)
       turn (Deliver from p) m = gets_votes now holds.agree r inside (w.replicas r).kept own from p (input_votes (Replica r) (Deliver from p) m from p refl)
-      turn Start m = idle_
-      turn Own m = idle_
-      turn Tick m = idle_
+      turn _ m = idle_
 
       go : (l : Option (Unit {0})) (o : Option Input) → IfOpen w.sent (Replica r) o → ReplicaVotes now r (replica_row (record { kept = (w.replicas r).kept; live = l; opened = o }))
       go l o h = grind (arith, turn)
@@ -188,9 +182,6 @@ module _ (g : Setting) (c : Checked g) (old : List ℕ) (w : World) (drawn : Lis
 
   abbrev Next : Entry → Type 0
   Next e = (o : List Offer) × ((BallotsHold g (after g w e) o × ((s : ℕ) → Begins (decided_in g w s) (decided_in g (after g w e) s))) × (BoundsHold g old w offered → BoundsHold g old (after g w e) o))
-
-  same_decided : (s : ℕ) → Begins (decided_in g w s) (decided_in g w s)
-  same_decided s = begins_self (decided_in g w s)
 
   -- the packets of a node that says nothing on ballots
   plain_sent : (n : Node) (as_ : List (To × Packet)) (ps : List (Node × Packet)) → Addressed g as_ ps → ArePlain as_ → (x : Sent) → Mem x (sends n ps) → VotesOf votes_now x.from x.packet
@@ -224,12 +215,12 @@ module _ (g : Setting) (c : Checked g) (old : List ℕ) (w : World) (drawn : Lis
   new_bound s k v x m = let q = k.values x m in subst (PhaseBound g old) q.4 (subst (OwnBound g old) q.3 (v q.0)).1
 
   next : (e : Entry) → May g w e → Next e
-  next (Begin (Dispatcher s) i) m = (offered, ((others_replaced g w offered ballots (after g w (Begin (Dispatcher s) i)) [] refl refl refl none_sent, same_decided), λ t. t))
-  next (Begin (Joiner j) i) m = (offered, ((others_replaced g w offered ballots (after g w (Begin (Joiner j) i)) [] refl refl refl none_sent, same_decided), λ t. t))
-  next (Begin (Server s) i) m = (offered, ((server_then g w offered ballots s (begun (w.servers s) i) [] [] (omega arith) tt ballots.agree (ballots.servers s m.0) (λ x q. absurd q), same_decided), λ t. (t.0, at_set_if (λ x. x < 2) (λ x (d : Cell ServerKept ServerLive). IfUp (BoundsOf g old) d.live) w.servers s (begun (w.servers s) i) (t.1 s m.0) (λ x lt ne. t.1 x lt))))
+  next (Begin (Dispatcher s) i) m = (offered, ((others_replaced g w offered ballots (after g w (Begin (Dispatcher s) i)) [] refl refl refl none_sent, λ s. begins_self (decided_in g w s)), λ t. t))
+  next (Begin (Joiner j) i) m = (offered, ((others_replaced g w offered ballots (after g w (Begin (Joiner j) i)) [] refl refl refl none_sent, λ s. begins_self (decided_in g w s)), λ t. t))
+  next (Begin (Server s) i) m = (offered, ((server_then g w offered ballots s (begun (w.servers s) i) [] [] (omega arith) tt ballots.agree (ballots.servers s m.0) (λ x q. absurd q), λ s. begins_self (decided_in g w s)), λ t. (t.0, at_set_if (λ x. x < 2) (λ x (d : Cell ServerKept ServerLive). IfUp (BoundsOf g old) d.live) w.servers s (begun (w.servers s) i) (t.1 s m.0) (λ x lt ne. t.1 x lt))))
   next (Begin (Replica r) i) m = (offered, (replica_same r m.0 (w.replicas r).live (Some i), λ t. t))
-  next (End (Dispatcher s) note_ ps kept) m = (offered, ((others_replaced g w offered ballots (after g w (End (Dispatcher s) note_ ps kept)) (sends (Dispatcher s) ps) refl refl refl (plain_sent (Dispatcher s) (dispatcher_row g s (w.dispatchers s)).packets ps m.1.2 (dispatcher_row_plain g s (w.dispatchers s))), same_decided), λ t. t))
-  next (End (Joiner j) note_ ps kept) m = (offered, ((others_replaced g w offered ballots (after g w (End (Joiner j) note_ ps kept)) (sends (Joiner j) ps) refl refl refl (plain_sent (Joiner j) (joiner_row g j (w.joiners j)).packets ps m.1.2 (joiner_row_plain g j (w.joiners j))), same_decided), λ t. t))
+  next (End (Dispatcher s) note_ ps kept) m = (offered, ((others_replaced g w offered ballots (after g w (End (Dispatcher s) note_ ps kept)) (sends (Dispatcher s) ps) refl refl refl (plain_sent (Dispatcher s) (dispatcher_row g s (w.dispatchers s)).packets ps m.1.2 (dispatcher_row_plain g s (w.dispatchers s))), λ s. begins_self (decided_in g w s)), λ t. t))
+  next (End (Joiner j) note_ ps kept) m = (offered, ((others_replaced g w offered ballots (after g w (End (Joiner j) note_ ps kept)) (sends (Joiner j) ps) refl refl refl (plain_sent (Joiner j) (joiner_row g j (w.joiners j)).packets ps m.1.2 (joiner_row_plain g j (w.joiners j))), λ s. begins_self (decided_in g w s)), λ t. t))
   next (End (Server s) note_ ps kept) m =
       let k = server_row_votes g w offered ballots s m.0 (holds.servers s m.0).opened in (
         k.1.new ++ offered,
@@ -238,7 +229,7 @@ module _ (g : Setting) (c : Checked g) (old : List ℕ) (w : World) (drawn : Lis
             subst (λ (q : Option Note). BallotsHold g (after g w (End (Server s) q ps kept)) (k.1.new ++ offered)) (sym m.1.1)
                 (server_then g w offered ballots s (ended land_server (w.servers s) (server_row g s (w.servers s)).note (server_row g s (w.servers s)).live) (sends (Server s) ps) k.1.new k.0 k.1.sites k.1.agree k.1.server
                 (addressed_votes g (offering votes_now k.1.new) (Server s) (server_row g s (w.servers s)).packets ps m.1.2 k.1.packets)),
-            same_decided,
+            λ s. begins_self (decided_in g w s),
           ),
           λ t. let v = server_row_bounds s m.0 t in (
             (λ x q. ⊎_elim (λ y. new_bound s k.1 v x y) (λ y. t.0 x y) (mem_split x k.1.new offered q)),
@@ -251,8 +242,8 @@ module _ (g : Setting) (c : Checked g) (old : List ℕ) (w : World) (drawn : Lis
       let d = ended land_replica (w.replicas r) (replica_row (w.replicas r)).note (replica_row (w.replicas r)).live in
       let h = replica_then g w offered ballots r m.0 d (sends (Replica r) ps) (replica_row (w.replicas r)).note refl k.note (addressed_votes g (with_note votes_now r (replica_row (w.replicas r)).note) (Replica r) (replica_row (w.replicas r)).packets ps m.1.2 k.packets) in
       (offered, (subst (λ (q : Option Note). BallotsHold g (after g w (End (Replica r) q ps kept)) offered × ((s : ℕ) → Begins (decided_in g w s) (decided_in g (after g w (End (Replica r) q ps kept)) s))) (sym m.1.1) h, λ t. t))
-  next (Stop (Dispatcher s) landed) m = (offered, ((others_replaced g w offered ballots (after g w (Stop (Dispatcher s) landed)) [] refl refl refl none_sent, same_decided), λ t. t))
-  next (Stop (Joiner j) landed) m = (offered, ((others_replaced g w offered ballots (after g w (Stop (Joiner j) landed)) [] refl refl refl none_sent, same_decided), λ t. t))
+  next (Stop (Dispatcher s) landed) m = (offered, ((others_replaced g w offered ballots (after g w (Stop (Dispatcher s) landed)) [] refl refl refl none_sent, λ s. begins_self (decided_in g w s)), λ t. t))
+  next (Stop (Joiner j) landed) m = (offered, ((others_replaced g w offered ballots (after g w (Stop (Joiner j) landed)) [] refl refl refl none_sent, λ s. begins_self (decided_in g w s)), λ t. t))
   next (Stop (Server s) landed) m =
       let k = server_row_votes g w offered ballots s m.0 (holds.servers s m.0).opened in (
         offered,
@@ -264,7 +255,7 @@ module _ (g : Setting) (c : Checked g) (old : List ℕ) (w : World) (drawn : Lis
                 (λ (e : landed ≡ (server_row g s (w.servers s)).note). subst (λ (q : Option Note). (w.servers s).kept.epoch ≤ (land land_server q (w.servers s).kept).epoch) (sym e) k.0)
                 m.1.1)
                 tt ballots.agree tt (λ x q. absurd q),
-            same_decided,
+            λ s. begins_self (decided_in g w s),
           ),
           λ t. (t.0, at_set_if (λ x. x < 2) (λ x (d : Cell ServerKept ServerLive). IfUp (BoundsOf g old) d.live) w.servers s (stopped land_server (w.servers s) landed) tt (λ x lt ne. t.1 x lt)),
         ),
@@ -414,9 +405,7 @@ missing_is_old g d drawn es c s r calm landed_ i t held unwritten =
     no_flight (Some l) e x = subst (λ (fs : List Flight). Mem x.0 fs → ⊥) (sym (landed_ t.joiner l (z.2.drawing.joiner (record { id = i; token = t }) was_drawn) e)) (λ m. m) x.1
 
     not_resolved : IsResolved g (known g w z.0) (record { id = i; token = t }) → ⊥
-    not_resolved (inl (inl x)) = unwritten x
-    not_resolved (inl (inr (u, ne, x))) = ne (one_granted (values_of g (known g w []) i) i u t x granted)
-    not_resolved (inr x) = let q = bound in omega arith
+    not_resolved h = grind (arith, w)
 
 -- ---- the decided bound
 

@@ -1,6 +1,5 @@
 -- A ballot is drawn for one place alone.
-use Rattle.std.proofs.Common.{◌≡◌, ◌⊎◌, inl, inr, ⊎_elim, ℕ, zero, suc, ◌<◌, ◌≤◌, List, [], ◌∷◌, ◌++◌, Some, None, refl, sym, ap, ◌∙◌, subst, arith}
-use Rattle.std.specs.Prelude.{Option}
+use Rattle.std.proofs.Common.{◌≡◌, ◌⊎◌, inl, inr, ⊎_elim, ℕ, zero, suc, ◌<◌, ◌≤◌, List, [], ◌∷◌, ◌++◌, Some, None, refl, sym, ap, ◌∙◌, subst, arith, Option}
 use Rattle.photon_model.proofs.Words.{Ballot, Insert, Batch, Phase, on_promise, on_accepted, Mem, Each, set_at, Setting, shard, Packet, Prepare, Accept, Place, Node, Dispatcher, Server, Replica, Joiner, To, Only, Sent, Input, Own, Note, Out, idle, land, ServerKept, ServerLive, ShardState, Proposal, land_server, to_from, to_replicas, replies, owns, promised, accepted, server_turn, ReplicaKept, each_at, mem_left, mem_right, mem_split, at_set, at_set_if, some_same, none_some, Addressed, World, Entry, Begin, End, Stop, Disks, begun, ended, stopped, dispatcher_row, joiner_row, server_row, replica_row, sends, after, world_after, May, IsRun, opening, Cell}
 use Rattle.photon_model.proofs.ServerRows.{next_at, current_at, replicas_each, reply_each, replies_each, tick_each, every_row}
 use Rattle.photon_model.specs.Claims.{HasSent}
@@ -207,8 +206,7 @@ module _ (g : Setting) (some : 0 < g.config.replicas) (w : World) (h : Drawn w) 
       is_drawn q at b x = grind arith
 
       same_draw : (q : Option Place) (at place : Place) (b : Ballot) → IsDraw g s k l w.sent q at b → IsDraw g s k l w.sent q place b → at ≡ place
-      same_draw None at place b x y = absurd x
-      same_draw (Some q) at place b x y = x.0 ∙ sym y.0
+      same_draw h at place b x y = grind arith
 
       rose : (q : Option Place) (at : Place) (b : Ballot) → IsDraw g s k l w.sent q at b → f.draw ≡ q → l.round < o.live.round
       rose None at b x e = absurd x

@@ -1,6 +1,5 @@
 -- Each bound that is offered is the horizon, or stood in an accepted record before the run.
-use Rattle.std.proofs.Common.{◌≡◌, inl, ℕ, List, Some, None, refl, subst, arith}
-use Rattle.std.specs.Prelude.{Option}
+use Rattle.std.proofs.Common.{◌≡◌, inl, ℕ, List, Some, None, refl, subst, arith, Option}
 use Rattle.photon_model.proofs.Words.{Ballot, Batch, higher, value_for, Phase, on_promise, on_accepted, Promising, Accepting, Ended, IsGrant, Mem, set_at, Setting, shard, Packet, Promise, Place, Node, Replica, Input, Deliver, ServerKept, ServerLive, ShardState, Proposal, accepted, server_turn, at_set, Offer, Votes, offer, VotesOf, VotesAgree, IsBoundOk}
 use Rattle.photon_model.proofs.ServerRows.{every_row, higher_both, promise_cases, accept_cases}
 

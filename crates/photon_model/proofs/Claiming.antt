@@ -1,6 +1,5 @@
 -- Each join in flight has sent its insert.
-use Rattle.std.proofs.Common.{◌≡◌, ◌⊎◌, inl, inr, ⊎_elim, ℕ, List, [], ◌∷◌, ◌++◌, Some, None, refl, sym, ap, ◌∙◌, subst, arith}
-use Rattle.std.specs.Prelude.{Option}
+use Rattle.std.proofs.Common.{◌≡◌, ◌⊎◌, inl, inr, ⊎_elim, ℕ, List, [], ◌∷◌, ◌++◌, Some, None, refl, sym, ap, ◌∙◌, subst, arith, Option}
 use Rattle.photon_model.proofs.Words.{Insert, Mem, set_at, Answer, Setting, Packet, Claim, Node, Dispatcher, Server, Replica, Joiner, To, Sent, Input, Out, JoinerKept, JoinerLive, Flight, insert_of, answers, joiner_turn, mem_left, mem_right, mem_split, at_set, some_same, none_some, Addressed, World, Entry, Begin, End, Stop, Disks, begun, stopped, joiner_row, sends, after, world_after, May, IsRun, opening, Cell}
 use Rattle.photon_model.proofs.Finding.{addressed}
 use Rattle.photon_model.proofs.JoinerRows.{landed_before, every_row}

@@ -1,6 +1,5 @@
 -- Each row of a dispatcher keeps its facts.
-use Rattle.std.proofs.Common.{◌≡◌, ◌⊎◌, inl, inr, ⊎_elim, ℕ, ◌<◌, Bool, true, false, cond, ◌==◌, List, [], ◌∷◌, ◌++◌, Some, None, refl, sym, ◌∙◌, subst, arith}
-use Rattle.std.specs.Prelude.{MatchBool}
+use Rattle.std.proofs.Common.{◌≡◌, ◌⊎◌, inl, inr, ⊎_elim, ℕ, ◌<◌, Bool, true, false, cond, ◌==◌, List, [], ◌∷◌, ◌++◌, Some, None, refl, sym, ◌∙◌, subst, arith, MatchBool}
 use Rattle.std.proofs.lemmas.Bool.{cond_both, eqb-true, eqb-false, eq-eqb, true≢false, cases_eq}
 use Rattle.photon_model.proofs.Words.{ClickLine, at, IsBoundary, first, Mem, Each, has, without, Setting, Checked, Packet, Joined, Outcome, Written, Already, Late, NoQuery, Busy, To, Input, Start, Own, Tick, Deliver, Park, Settle, idle, DispatcherKept, DispatcherLive, Fresh, done_end, after_done, first_done, waits, mark_one, mark, has_room, advances, retries, taken_line as taken, takes, with_room, dispatcher_own, fresh_joins, join_if, trying_joins, dispatcher_tick, ends, parks, dispatcher_joined, dispatcher_gets, dispatcher_turn, dispatcher_start, some_same, clash, option_both, each_append, has_push-or, has_push-left, has_push-right, has_push-false, has_without-true, has_without, has_without-false, has_without-self, distinct_push, distinct_without, at_mem, at_own, before_end, granted_settles, Known, values_of, IsSettled, HasNoQuery, DispatcherSound, HoldsOfOutcome, HoldsOf, HoldsOfInput, IsLineOf, Covers, IsFreshSound, DispatcherHolds, PacketsHold, DispatcherKeeps}
 

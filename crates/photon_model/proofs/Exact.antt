@@ -1,7 +1,5 @@
 -- From the empty store, at rest, the report is that of the two logs, but for missing clicks.
-use Rattle.std.proofs.Common.{◌≡◌, ◌⊎◌, inl, inr, ⊎_elim, ℕ, zero, suc, ◌*◌, ◌≤◌, List, [], ◌∷◌, map, Some, None, refl, sym, ap, ◌∙◌, subst, arith, lit<}
-use Rattle.std.specs.Prelude.{Option, slice_get, nat_lt}
-use Rattle.std.specs.declared.cmp.Ordering.{Ordering}
+use Rattle.std.proofs.Common.{◌≡◌, ◌⊎◌, inl, inr, ⊎_elim, ℕ, zero, suc, ◌*◌, ◌≤◌, List, [], ◌∷◌, map, Some, None, refl, sym, ap, ◌∙◌, subst, arith, lit<, Option, slice_get, nat_lt, Ordering}
 use Rattle.std.specs.FinMap as finite
 use Rattle.std.proofs.lemmas.Bool.{cond_both, cases_lt, ltb-true, ltb-false}
 use Rattle.photon_model.proofs.Words.{EventId, id_cmp, Token, Batch, IsGranted, bound_of, bound_at, holder, first_insert, granted_means, holder_granted, Mem, some_same, none_some, each_at, Query, Click, ClickLine, first, J, M, PairRec, Setting, Checked, first_joiner, shard, shard_below, SoundStore, PairSound, IsWritten, known_of, values_of, known, all_pairs, pair_of, line_by, line_of, unwritten_line, IsAtRest, World, Entry, Disks, disks, world_after, IsRun, opening, empty_disks, AllFactsHold, HasBounds, RestLeaves, decided_in}

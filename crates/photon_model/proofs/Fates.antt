@@ -1,9 +1,8 @@
 -- What becomes of a drawn token while its joiner doesn't stop: its join is in flight, or has ended.
-use Rattle.std.proofs.Common.{◌≡◌, ◌≢◌, ◌⊎◌, inl, inr, ⊎_elim, ℕ, Bool, true, false, ◌==◌, List, ◌++◌, Some, None, refl, sym, ◌∙◌, subst, arith}
-use Rattle.std.specs.Prelude.{Option}
+use Rattle.std.proofs.Common.{◌≡◌, ◌≢◌, ◌⊎◌, inl, inr, ⊎_elim, ℕ, Bool, true, false, ◌==◌, List, ◌++◌, Some, None, refl, sym, ◌∙◌, subst, arith, Option}
 use Rattle.std.proofs.lemmas.Bool.{cond-true, eq-eqb}
-use Rattle.photon_model.proofs.Words.{EventId, Token, Insert, Mem, Begins, set_at, Answer, Granted, Duplicate, TooOld, IsGranted, Expired, Setting, Checked, IsJoiner, Packet, Node, Joiner, PairRec, Input, Note, Out, land, JoinerKept, JoinerLive, Flight, land_joiner, insert_of, is_for, landed, answers, joiner_turn, mem_left, mem_right, mem_split, at_set, clash, each_at, bound_stays, Known, values_of, HoldsOfReply, HoldsOfInput, IfOpen, known, WorldHolds, World, Begin, End, begun, ended, joiner_row, after, Grows, IsFlying, IsResolved, IsDrawing, JoinerKeeps, decided_in, Cell}
-use Rattle.photon_model.proofs.Growth.{begins_self, written_lasts, granted_lasts}
+use Rattle.photon_model.proofs.Words.{EventId, Token, Insert, Mem, Begins, set_at, Answer, Granted, Duplicate, TooOld, IsGranted, Expired, Setting, Checked, IsJoiner, Packet, Node, Joiner, PairRec, Input, Note, Out, land, JoinerKept, JoinerLive, Flight, land_joiner, insert_of, is_for, landed, answers, joiner_turn, mem_left, mem_right, mem_split, at_set, clash, each_at, bound_stays, granted_stays, Known, values_of, HoldsOfReply, HoldsOfInput, IfOpen, known, WorldHolds, World, Begin, End, ended, joiner_row, after, Grows, IsFlying, IsResolved, IsDrawing, JoinerKeeps, decided_in, Cell}
+use Rattle.photon_model.proofs.Growth.{begins_self, written_lasts}
 use Rattle.photon_model.proofs.JoinerRows.{landed_or, every_row}
 use Rattle.photon_model.proofs.Joining.{for_means}
 use Rattle.photon_model.proofs.Lifting.{input_holds}
@@ -14,7 +13,7 @@ Fates g old w drawn = (x : Insert) → Mem x drawn → (Mem x old ⊎ IsFlying (
 
 resolved_lasts : (g : Setting) (a b : Known) → Grows a b → (x : Insert) → IsResolved g a x → IsResolved g b x
 resolved_lasts g a b up x (inl (inl h)) = inl (inl (written_lasts g a b up x.id h))
-resolved_lasts g a b up x (inl (inr (t, ne, h))) = inl (inr (t, ne, granted_lasts g a b up x.id t h))
+resolved_lasts g a b up x (inl (inr (t, ne, h))) = inl (inr (t, ne, granted_stays _ _ x.id t (up.values _) h))
 resolved_lasts g a b up x (inr h) = inr (let q = bound_stays (values_of g a x.id) (values_of g b x.id) (up.values _) in omega arith)
 
 pub fates_decided : (g : Setting) (old : List Insert) (w : World) (drawn : List Insert) (v : World) → (v.joiners ≡ w.joiners) → ((s : ℕ) → Begins (decided_in g w s) (decided_in g v s)) → Fates g old w drawn → Fates g old v drawn
@@ -25,12 +24,7 @@ fates_decided g old w drawn v same grow f x m =
     (f x m)
 
 pub fates_begun : (g : Setting) (old : List Insert) (w : World) (drawn : List Insert) (j : ℕ) (i : Input) → Fates g old w drawn → Fates g old (after g w (Begin (Joiner j) i)) drawn
-fates_begun g old w drawn j i f x m =
-    ⊎_elim
-    (λ h. inl (⊎_elim (λ a. inl a) (λ a. inr (at_set (λ t (c : Cell JoinerKept JoinerLive). IsFlying (w.joiners t).live x → IsFlying c.live x) w.joiners j (begun (w.joiners j) i) (λ q. q) (λ t q. q) x.token.joiner a)) h))
-    (λ h. inr (resolved_lasts g (known g w drawn) (known g (after g w (Begin (Joiner j) i)) drawn)
-    (record { values = λ s. begins_self ((known g w drawn).values s); pairs = at_set (λ t (c : Cell JoinerKept JoinerLive). (p : PairRec) → Mem p (w.joiners t).kept.pairs → Mem p c.kept.pairs) w.joiners j (begun (w.joiners j) i) (λ p q. q) (λ t p q. q); drawn = λ y k. k }) x h))
-    (f x m)
+fates_begun g old w drawn j i f x m = grind arith
 
 -- a flight stays, or its join ends
 module _ (g : Setting) (n b : Known) (j : ℕ) (is_joiner : IsJoiner g j) (k : JoinerKept) (l : JoinerLive) (up : Grows n b) (f : Flight) (here : Mem f l.flight) where
@@ -45,7 +39,7 @@ module _ (g : Setting) (n b : Known) (j : ℕ) (is_joiner : IsJoiner g j) (k : J
   replies x y is_y Granted h is_f more = inl (inl (j, record { click = y.click; query = y.query; token = y.token }, is_joiner, more _ (mem_right _ k.pairs _ (inl refl)), (for_means x y is_y).0 ∙ sym (for_means x f is_f).0))
   replies x y is_y (Duplicate t) h is_f more =
       let e = for_means x f is_f in
-      inl (inr (t, subst (λ (z : Token). t ≢ z) (sym e.1) h.0, granted_lasts g n b up f.click.id t (subst (λ (z : EventId). IsGranted (values_of g n z) z t) (sym e.0) h.1)))
+      inl (inr (t, subst (λ (z : Token). t ≢ z) (sym e.1) h.0, granted_stays _ _ f.click.id t (up.values _) (subst (λ (z : EventId). IsGranted (values_of g n z) z t) (sym e.0) h.1)))
   replies x y is_y (TooOld c) h is_f more =
       let e = for_means x f is_f in
       inr (subst (λ (z : EventId). Expired (values_of g b z) z) (sym e.0) (let p = h.0 in let q = h.1 in let r = bound_stays (values_of g n x.id) (values_of g b x.id) (up.values _) in omega arith))

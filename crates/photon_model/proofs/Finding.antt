@@ -1,6 +1,5 @@
 -- Lists that are searched, and packets as they were sent.
-use Rattle.std.proofs.Common.{◌≡◌, inl, inr, ℕ, zero, suc, ◌+◌, ◌<◌, ◌≤◌, Bool, true, false, List, [], ◌∷◌, Some, None, ap, ◌∙◌, refl, arith}
-use Rattle.std.specs.Prelude.{find}
+use Rattle.std.proofs.Common.{◌≡◌, inl, inr, ℕ, zero, suc, ◌+◌, ◌<◌, ◌≤◌, Bool, true, false, List, [], ◌∷◌, Some, None, ap, ◌∙◌, refl, arith, find}
 use Rattle.photon_model.proofs.Words.{none_some, Mem, Setting, IsTo, Addressed, Packet, Node, To, Sent, first_shard, sends}
 
 -- the first element that passes a test
@@ -28,8 +27,7 @@ addressed g from (b ∷ as_) [] h a m = absurd h
 addressed g from (b ∷ as_) (p ∷ ps) h a k = grind (arith, addressed g from as_ ps h.1 a)
 
 pub sent_addressed : (g : Setting) (from : Node) (as_ : List (To × Packet)) (ps : List (Node × Packet)) → Addressed g as_ ps → (x : Sent) → Mem x (sends from ps) → (a : To × Packet) × Mem a as_ × (a.1 ≡ x.packet)
-sent_addressed g from [] [] h x m = absurd m
 sent_addressed g from [] (p ∷ ps) h x m = absurd h
-sent_addressed g from (b ∷ as_) [] h x m = absurd m
 sent_addressed g from (b ∷ as_) (p ∷ ps) h x (inl e) = (b, inl refl, h.0.1 ∙ ap (λ (z : Sent). z.packet) e)
 sent_addressed g from (b ∷ as_) (p ∷ ps) h x (inr m) = let i = sent_addressed g from as_ ps h.1 x m in (i.0, inr i.1, i.2)
+sent_addressed g from _ [] h x m = absurd m

@@ -1,7 +1,6 @@
 -- Facts that last where more is known: one lemma for each kind of fact.
-use Rattle.std.proofs.Common.{◌≡◌, inl, inr, ⊎_elim, ℕ, ◌≤◌, List, [], ◌∷◌, ◌++◌, Some, refl, sym, ap, ◌∙◌, subst, arith}
-use Rattle.std.specs.Prelude.{Option, slice_get}
-use Rattle.photon_model.proofs.Words.{EventId, Token, Insert, Batch, ClickLine, Mem, Each, Begins, Answer, Granted, Duplicate, TooOld, IsGranted, Setting, Packet, Joined, Claim, Reply, Promise, Accept, Chosen, Outcome, Written, Already, Late, NoQuery, Busy, PairRec, BallotNote, DispatcherKept, DispatcherLive, JoinerKept, JoinerLive, Flight, ServerLive, ShardState, Proposal, each_more, granted_stays, settled_stays, bound_stays, get_front, Known, values_of, IsWritten, IsSettled, DispatcherSound, PairSound, JoinerSound, IsInsertOf, InsertsOf, IsTooOld, HoldsOfOutcome, HoldsOfReply, HoldsOf, DispatcherHolds, FlightHolds, JoinerHolds, HoldsOfProposal, ShardHolds, ServerHolds, Grows}
+use Rattle.std.proofs.Common.{◌≡◌, inl, inr, ⊎_elim, ℕ, ◌≤◌, List, [], ◌∷◌, ◌++◌, Some, refl, sym, ap, ◌∙◌, subst, arith, Option, slice_get}
+use Rattle.photon_model.proofs.Words.{EventId, Insert, Batch, ClickLine, Mem, Each, Begins, Answer, Granted, Duplicate, TooOld, Setting, Packet, Joined, Claim, Reply, Promise, Accept, Chosen, Outcome, Written, Already, Late, PairRec, BallotNote, DispatcherKept, DispatcherLive, JoinerKept, JoinerLive, Flight, ShardState, Proposal, each_more, granted_stays, settled_stays, bound_stays, get_front, Known, values_of, IsWritten, IsSettled, DispatcherSound, PairSound, JoinerSound, IsInsertOf, InsertsOf, IsTooOld, HoldsOfOutcome, HoldsOfReply, HoldsOf, DispatcherHolds, FlightHolds, JoinerHolds, HoldsOfProposal, ShardHolds, Grows}
 
 pub begins_self : {A : Type 0} (xs : List A) → Begins xs xs
 begins_self xs = ([], go xs)
@@ -21,9 +20,6 @@ module _ (g : Setting) (a b : Known) (up : Grows a b) where
   pub written_lasts : (i : EventId) → IsWritten g a i → IsWritten g b i
   written_lasts i w = (w.0, w.1, w.2, up.pairs w.0 w.1 w.3, w.4)
 
-  pub granted_lasts : (i : EventId) (t : Token) → IsGranted (values_of g a i) i t → IsGranted (values_of g b i) i t
-  granted_lasts i t h = granted_stays (values_of g a i) (values_of g b i) i t (up.values _) h
-
   pub settled_lasts : (i : EventId) → IsSettled g a i → IsSettled g b i
   settled_lasts i (inl h) = inl (settled_stays (values_of g a i) (values_of g b i) i (up.values _) h)
   settled_lasts i (inr w) = inr (written_lasts i w)
@@ -33,14 +29,13 @@ module _ (g : Setting) (a b : Known) (up : Grows a b) where
 
   outcome_lasts : (l : ClickLine) (o : Outcome) → HoldsOfOutcome g a l o → HoldsOfOutcome g b l o
   outcome_lasts l Written h = written_lasts l.click.id h
-  outcome_lasts l (Already t) h = granted_lasts l.click.id t h
+  outcome_lasts l (Already t) h = granted_stays _ _ l.click.id t (up.values _) h
   outcome_lasts l (Late c) h = late_lasts l.click.id c h
-  outcome_lasts l (NoQuery m) h = h
-  outcome_lasts l Busy h = h
+  outcome_lasts l _ h = h
 
   reply_lasts : (x : Insert) (r : Answer) → HoldsOfReply g a x r → HoldsOfReply g b x r
-  reply_lasts x Granted h = granted_lasts x.id x.token h
-  reply_lasts x (Duplicate t) h = (h.0, granted_lasts x.id t h.1)
+  reply_lasts x Granted h = granted_stays _ _ x.id x.token (up.values _) h
+  reply_lasts x (Duplicate t) h = (h.0, granted_stays _ _ x.id t (up.values _) h.1)
   reply_lasts x (TooOld c) h = late_lasts x.id c h
 
   inserts_last : (s : ℕ) (xs : List Insert) → Each (IsInsertOf g a s) xs → Each (IsInsertOf g b s) xs
@@ -62,7 +57,7 @@ module _ (g : Setting) (a b : Known) (up : Grows a b) where
   dispatcher_live_lasts k l h = grind (arith, each_more, settled_lasts)
 
   pub pair_lasts : (j e d : ℕ) → e ≤ d → (p : PairRec) → PairSound g a j e p → PairSound g b j d p
-  pair_lasts j e d le p s = record { own_query = s.own_query; joiner = s.joiner; epoch = (let q = s.epoch in omega arith); granted = granted_lasts p.click.id p.token s.granted; drawn = up.drawn _ s.drawn }
+  pair_lasts j e d le p s = record { own_query = s.own_query; joiner = s.joiner; epoch = (let q = s.epoch in omega arith); granted = granted_stays _ _ p.click.id p.token (up.values _) s.granted; drawn = up.drawn _ s.drawn }
 
   pub joiner_kept_lasts : (j : ℕ) (k : JoinerKept) → JoinerSound g a j k → JoinerSound g b j k
   joiner_kept_lasts j k s = record { pairs = each_more (PairSound g a j k.epoch) (PairSound g b j k.epoch) k.pairs (pair_lasts j k.epoch k.epoch (omega arith)) s.pairs; once = s.once }
@@ -86,11 +81,5 @@ module _ (g : Setting) (a b : Known) (up : Grows a b) where
   pub shard_lasts : (s : ℕ) (st : ShardState) → ShardHolds g a s st → ShardHolds g b s st
   shard_lasts s st h = record { learned = begins_again st.learned (a.values s) (b.values s) h.learned (up.values s); queue = inserts_last s st.queue h.queue; proposal = proposal_lasts s st.proposal h.proposal }
 
-  pub server_lasts : (l : ServerLive) → ServerHolds g a l → ServerHolds g b l
-  server_lasts l h s = shard_lasts s (l.shards s) (h s)
-
-  note_lasts : (x : BallotNote) → InsertsOf g a x → InsertsOf g b x
+  pub note_lasts : (x : BallotNote) → InsertsOf g a x → InsertsOf g b x
   note_lasts x h = grind (arith, inserts_last)
-
-  pub notes_last : (xs : List BallotNote) → Each (InsertsOf g a) xs → Each (InsertsOf g b) xs
-  notes_last xs h = each_more (InsertsOf g a) (InsertsOf g b) xs note_lasts h

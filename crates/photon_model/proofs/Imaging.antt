@@ -1,10 +1,10 @@
 -- Stops of all nodes after a run are a run, and leave what an image holds.
-use Rattle.std.proofs.Common.{◌≡◌, ◌⊎◌, inl, inr, ⊎_elim, ℕ, zero, suc, ◌+◌, ◌*◌, ◌<◌, ◌≤◌, Bool, true, cond, ◌&&◌, List, [], ◌∷◌, ◌++◌, Some, None, refl, sym, ap, ◌∙◌, subst, arith, lit<}
-use Rattle.std.specs.Prelude.{Option, is_some}
+use Rattle.std.proofs.Common.{◌≡◌, ◌⊎◌, inl, inr, ⊎_elim, zero, suc, ◌*◌, Bool, true, cond, ◌&&◌, List, [], ◌∷◌, ◌++◌, Some, None, refl, sym, ap, ◌∙◌, subst, arith, lit<, Option, is_some}
 use Rattle.std.proofs.lemmas.Bool.{cases_lt, cond_both}
 use Rattle.photon_model.proofs.Worlds.{opened_at, run_append, after_append}
 use Rattle.photon_model.proofs.Local.{same_node-true, same_node-self, own_one}
-use Rattle.photon_model.proofs.Words.{KeptOf, LiveOf, at_node, land_at, row_of, same_node, clash, Mem, Each, Setting, first_joiner, Checked, Node, Dispatcher, Server, Replica, Joiner, Input, Note, land, none_some, each_append, mem_left, mem_right, IsNode, SoundStore, World, Entry, Stop, Disks, disks, stopped, after, world_after, May, IsRun, opening, left_by, image, Cell}
+use Rattle.photon_model.proofs.Words.{KeptOf, LiveOf, at_node, land_at, row_of, same_node, clash, Mem, Each, Setting, first_joiner, Checked, Node, Dispatcher, Server, Replica, Joiner, Input, Note, land, none_some, each_append, mem_left, mem_right, IsNode, SoundStore, World, Entry, Stop, Disks, disks, stopped, after, world_after, May, IsRun, opening, left_by, image, Cell, values_from}
+use Rattle.photon_model.proofs.Journals.{values_mem, values_each}
 use Rattle.photon_model.proofs.Closing.{runs_keep_stores}
 
 module _ (g : Setting) (landed : Node → Bool) where
@@ -72,43 +72,28 @@ module _ (g : Setting) (landed : Node → Bool) where
 
 -- ---- the nodes there are
 
-nodes_from : (ℕ → Node) → ℕ → ℕ → List Node
-nodes_from kind from zero = []
-nodes_from kind from (suc n) = kind from ∷ nodes_from kind (suc from) n
-
-in_from : (kind : ℕ → Node) (from n j : ℕ) → from ≤ j → j < from + n → Mem (kind j) (nodes_from kind from n)
-unfolding nodes_from
-in_from kind from zero j a b = absurd (omega arith)
-in_from kind from (suc n) j a b = ⊎_elim (λ lt. inr (in_from kind (suc from) n j lt (omega arith))) (λ ge. inl (ap kind (let e : from ≡ j = omega arith in e))) (cases_lt from j)
-
-are_from : (g : Setting) (kind : ℕ → Node) (from n : ℕ) → ((j : ℕ) → from ≤ j → j < from + n → IsNode g (kind j)) → Each (IsNode g) (nodes_from kind from n)
-unfolding nodes_from
-are_from g kind from zero h = tt
-are_from g kind from (suc n) h = (h from (omega arith) (omega arith), are_from g kind (suc from) n (λ j a b. h j (omega (arith, a)) (omega (arith, b))))
-
 abbrev replicas_of : Setting → List Node
-replicas_of g = nodes_from Replica 0 g.config.replicas
+replicas_of g = values_from Replica 0 g.config.replicas
 
 abbrev joiners_of : Setting → List Node
-joiners_of g = nodes_from Joiner (first_joiner g) (2 * g.config.joiners)
+joiners_of g = values_from Joiner (first_joiner g) (2 * g.config.joiners)
 
 all_nodes : Setting → List Node
 all_nodes g = Dispatcher 0 ∷ Dispatcher 1 ∷ Server 0 ∷ Server 1 ∷ (replicas_of g ++ joiners_of g)
 
 are_nodes : (g : Setting) → Each (IsNode g) (all_nodes g)
 unfolding all_nodes
-are_nodes g = (lit< tt, (lit< tt, (lit< tt, (lit< tt, each_append (IsNode g) (replicas_of g) (joiners_of g) (are_from g Replica 0 g.config.replicas (λ j a b. omega (arith, b))) (are_from g Joiner (first_joiner g) (2 * g.config.joiners) (λ j a b. (a, b)))))))
+are_nodes g = (lit< tt, (lit< tt, (lit< tt, (lit< tt, each_append (IsNode g) (replicas_of g) (joiners_of g) (values_each (IsNode g) Replica 0 g.config.replicas (λ j a b. omega (arith, b))) (values_each (IsNode g) Joiner (first_joiner g) (2 * g.config.joiners) (λ j a b. (a, b)))))))
 
 node_in : (g : Setting) (n : Node) → IsNode g n → Mem n (all_nodes g)
 unfolding all_nodes
 node_in g (Dispatcher zero) k = inl refl
 node_in g (Dispatcher (suc zero)) k = inr (inl refl)
-node_in g (Dispatcher (suc (suc s))) k = absurd (omega arith)
 node_in g (Server zero) k = inr (inr (inl refl))
 node_in g (Server (suc zero)) k = inr (inr (inr (inl refl)))
-node_in g (Server (suc (suc s))) k = absurd (omega arith)
-node_in g (Replica r) k = inr (inr (inr (inr (mem_left (Replica r) (replicas_of g) (joiners_of g) (in_from Replica 0 g.config.replicas r (omega arith) (omega arith))))))
-node_in g (Joiner j) k = inr (inr (inr (inr (mem_right (Joiner j) (replicas_of g) (joiners_of g) (in_from Joiner (first_joiner g) (2 * g.config.joiners) j k.0 k.1)))))
+node_in g (Replica r) k = inr (inr (inr (inr (mem_left (Replica r) (replicas_of g) (joiners_of g) (values_mem Replica 0 g.config.replicas r (omega arith) (omega arith))))))
+node_in g (Joiner j) k = inr (inr (inr (inr (mem_right (Joiner j) (replicas_of g) (joiners_of g) (values_mem Joiner (first_joiner g) (2 * g.config.joiners) j k.0 k.1)))))
+node_in g _ k = absurd (omega arith)
 
 -- ---- nodes that the setting doesn't have stay closed
 

@@ -1,11 +1,10 @@
 -- Each row of a joiner keeps its facts.
-use Rattle.std.proofs.Common.{◌≡◌, ◌≢◌, inl, ⊎_elim, ℕ, suc, ◌<◌, ◌≤◌, true, false, List, [], ◌∷◌, ◌++◌, length, map, Some, None, refl, sym, ap, ◌∙◌, subst, arith, ◌⊎◌, inr, Bool, cond}
-use Rattle.std.specs.Prelude.{Option}
+use Rattle.std.proofs.Common.{◌≡◌, ◌≢◌, inl, ⊎_elim, ℕ, suc, ◌<◌, ◌≤◌, true, false, List, [], ◌∷◌, ◌++◌, length, map, Some, None, refl, sym, ap, ◌∙◌, subst, arith, ◌⊎◌, inr, Bool, cond, Option}
 use Rattle.std.proofs.lemmas.Bool.{and_parts, and_from, cond_both, or_parts}
 use Rattle.photon_model.proofs.Worlds.{set_own}
-use Rattle.photon_model.proofs.Words.{EventId, Token, Insert, same_id, same_token, Query, Click, ClickLine, at, first_click, first, Mem, Each, Setting, Checked, IsJoiner, Answer, Granted, Duplicate, TooOld, IsGranted, Outcome, NoQuery, Busy, PairRec, Input, Note, Out, idle, land, JoinerKept, JoinerLive, Flight, land_joiner, insert_of, is_for, in_flight, landed, to_dispatcher, claim, next_token, without_flight, answers, joiner_turn, joiner_start, clash, mem_left, mem_right, each_at, each_from, each_more, each_append, pairs_push, at_mem, same_id-true, same_token-true, same_id-refl, same_token-refl, Known, values_of, PairSound, JoinerSound, DrawnSound, IsTooOld, HoldsOfOutcome, HoldsOfReply, HoldsOfInput, FlightHolds, JoinerHolds, PacketsHold, Grows, extended, JoinerKeeps, NoConflict, EachPair, same_id-false}
+use Rattle.photon_model.proofs.Words.{EventId, Token, Insert, same_id, same_token, Query, Click, ClickLine, at, first_click, first, Mem, Each, Setting, Checked, IsJoiner, Answer, Granted, Duplicate, TooOld, IsGranted, Outcome, NoQuery, Busy, PairRec, Input, Note, Out, idle, land, JoinerKept, JoinerLive, Flight, land_joiner, insert_of, is_for, in_flight, landed, to_dispatcher, claim, next_token, without_flight, answers, joiner_turn, joiner_start, clash, mem_left, mem_right, each_at, each_from, each_more, each_append, pairs_push, at_mem, same_id-true, same_token-true, same_id-refl, same_token-refl, Known, granted_stays, values_of, PairSound, JoinerSound, DrawnSound, IsTooOld, HoldsOfOutcome, HoldsOfReply, HoldsOfInput, FlightHolds, JoinerHolds, PacketsHold, Grows, extended, JoinerKeeps, NoConflict, EachPair, same_id-false}
 use Rattle.photon_model.proofs.JoinerRows.{begun_join, every_row}
-use Rattle.photon_model.proofs.Growth.{begins_self, granted_lasts, late_lasts, joiner_kept_lasts, joiner_live_lasts, flight_lasts, pair_lasts}
+use Rattle.photon_model.proofs.Growth.{begins_self, late_lasts, joiner_kept_lasts, joiner_live_lasts, flight_lasts, pair_lasts}
 
 -- the first click with the id of a line is a line with the same click
 first_of : (ls all : List ClickLine) (l : ClickLine) → ((m : ClickLine) → Mem m ls → Mem m all) → NoConflict all → Mem l all → Mem l ls → (m : ClickLine) × (first_click ls l.click.id ≡ Some m) × (m.click ≡ l.click)
@@ -144,7 +143,7 @@ module _ (g : Setting) (n : Known) (epochs : ℕ → ℕ) (j : ℕ) (k : JoinerK
     pair = record { click = f.click; query = f.query; token = f.token }
 
     answer_keeps : (a : Answer) → HoldsOfReply g n x a → JoinerKeeps g n j k (answers g j k l x f a)
-    answer_keeps (Duplicate t) h = quiet _ refl live_landed ((line, flight_of.line.1, granted_lasts g n same same_up line.click.id t (subst (λ (i : EventId). IsGranted (values_of g n i) i t) (sym to_x) h.1)), tt)
+    answer_keeps (Duplicate t) h = quiet _ refl live_landed ((line, flight_of.line.1, granted_stays _ _ line.click.id t (same_up.values _) (subst (λ (i : EventId). IsGranted (values_of g n i) i t) (sym to_x) h.1)), tt)
     answer_keeps (TooOld b) h = quiet _ refl live_landed ((line, flight_of.line.1, late_lasts g n same same_up line.click.id b (subst (λ (i : EventId). IsTooOld g n i b) (sym to_x) h)), tt)
     answer_keeps Granted h =
         record {
@@ -181,7 +180,7 @@ module _ (g : Setting) (n : Known) (epochs : ℕ → ℕ) (j : ℕ) (k : JoinerK
         means = for_means x f is
 
         granted : IsGranted (values_of g now f.click.id) f.click.id f.token
-        granted = granted_lasts g n now up f.click.id f.token (subst (λ (y : EventId × Token). IsGranted (values_of g n y.0) y.0 y.1) (λ i. (sym means.0 i, sym means.1 i)) h)
+        granted = granted_stays _ _ f.click.id f.token (up.values _) (subst (λ (y : EventId × Token). IsGranted (values_of g n y.0) y.0 y.1) (λ i. (sym means.0 i, sym means.1 i)) h)
 
         -- another flight has another token: with this one it would have this id, and have landed
         other : (y : Flight) → is_for x y ≡ false → FlightHolds g n j k.epoch l.number y → f.token ≢ y.token
@@ -193,8 +192,8 @@ module _ (g : Setting) (n : Known) (epochs : ℕ → ℕ) (j : ℕ) (k : JoinerK
   claims_hold [] h = tt
   claims_hold (f ∷ fs) h = (h.0.claimed, claims_hold fs h.1)
 
-  pub turn_keeps : (i : Input) → HoldsOfInput g n i → JoinerKeeps g n j k (joiner_turn g j k l i)
-  turn_keeps =
+  pub joiner_keeps : (i : Input) → HoldsOfInput g n i → JoinerKeeps g n j k (joiner_turn g j k l i)
+  joiner_keeps =
       every_row g j k l (λ i o. HoldsOfInput g n i → JoinerKeeps g n j k o)
       (record {
         idles = λ i h. quiet (idle l) refl live_same tt;
@@ -204,9 +203,6 @@ module _ (g : Setting) (n : Known) (epochs : ℕ → ℕ) (j : ℕ) (k : JoinerK
         is_busy = λ from p x h. tells p Busy h.0 h.1 tt live_same;
         is_answered = λ from x a f m is h. answer_keeps x f m is a h;
       })
-
-pub joiner_keeps : (g : Setting) (n : Known) (epochs : ℕ → ℕ) (j : ℕ) (k : JoinerKept) (l : JoinerLive) (i : Input) → Checked g → IsJoiner g j → n.pairs j ≡ k.pairs → DrawnSound g n epochs → JoinerSound g n j k → JoinerHolds g n j k l → HoldsOfInput g n i → JoinerKeeps g n j k (joiner_turn g j k l i)
-joiner_keeps g n epochs j k l i c is own d s h x = turn_keeps g n epochs j k l c is own d s h i x
 
 pub joiner_start_keeps : (g : Setting) (n : Known) (epochs : ℕ → ℕ) (j : ℕ) (k : JoinerKept) → n.pairs j ≡ k.pairs → epochs j ≡ k.epoch → DrawnSound g n epochs → JoinerSound g n j k → JoinerKeeps g n j k (joiner_start k)
 joiner_start_keeps g n epochs j k own at_j d s = grind (arith, each_more)

@@ -1,7 +1,7 @@
 -- The list of the replicas' journals, and the notes that votes stand in.
-use Rattle.std.proofs.Common.{◌≡◌, ◌≢◌, ⊎_elim, ℕ, zero, suc, ◌+◌, ◌<◌, ◌≤◌, List, [], ◌∷◌, ◌++◌, length, get_or, set, Some, refl, ap, ◌∙◌, subst, arith}
-use Rattle.std.specs.Prelude.{slice_get}
-use Rattle.photon_model.proofs.Words.{Ballot, Place, Vote, acceptance, votes_at, votes_in as votes, Has, Took as Accepted, HasAccepted, JournalsAgree, IsExact, agreed_one, noted, Batch, same_batch, same_batch-true, same_batch-refl, Mem, BallotNote, ReplicaKept, values_from, journals}
+use Rattle.std.proofs.Common.{◌≡◌, ◌≢◌, inl, inr, ⊎_elim, ℕ, zero, suc, ◌+◌, ◌<◌, ◌≤◌, List, [], ◌∷◌, ◌++◌, length, get_or, set, Some, refl, ap, ◌∙◌, subst, arith, slice_get}
+use Rattle.std.proofs.lemmas.Bool.{cases_lt}
+use Rattle.photon_model.proofs.Words.{Ballot, Place, Vote, acceptance, votes_at, votes_in as votes, Has, Took as Accepted, HasAccepted, JournalsAgree, IsExact, agreed_one, noted, Batch, same_batch, same_batch-true, same_batch-refl, Mem, Each, BallotNote, ReplicaKept, values_from, journals}
 use Rattle.ballot_core.proofs.Meets.{some_member}
 use Rattle.paxos_defs.proofs.Decided.{decided_is}
 use Rattle.photon_model.specs.Journals.{decided}
@@ -12,9 +12,17 @@ pub values_length : {A : Type 0} (f : ℕ → A) (from n : ℕ) → length (valu
 values_length f from zero = refl
 values_length f from (suc n) = ap suc (values_length f (suc from) n)
 
-values_same : {A : Type 0} (f h : ℕ → A) (from n : ℕ) → ((k : ℕ) → from ≤ k → f k ≡ h k) → values_from f from n ≡ values_from h from n
+pub values_same : {A : Type 0} (f h : ℕ → A) (from n : ℕ) → ((k : ℕ) → from ≤ k → k < from + n → f k ≡ h k) → values_from f from n ≡ values_from h from n
 values_same f h from zero e = refl
-values_same {A} f h from (suc n) e = let rest = values_same f h (suc from) n (λ k le. e k (omega arith)) in let here = e from (omega arith) in λ i. here i ∷ rest i
+values_same f h from (suc n) e = grind (arith, values_same f h (suc from) n)
+
+pub values_mem : {A : Type 0} (f : ℕ → A) (from n k : ℕ) → from ≤ k → k < from + n → Mem (f k) (values_from f from n)
+values_mem f from zero k a b = absurd (omega arith)
+values_mem f from (suc n) k a b = ⊎_elim (λ lt. inr (values_mem f (suc from) n k lt (omega arith))) (λ ge. inl (ap f (let e : from ≡ k = omega arith in e))) (cases_lt from k)
+
+pub values_each : {A : Type 0} (P : A → Type 0) (f : ℕ → A) (from n : ℕ) → ((k : ℕ) → from ≤ k → k < from + n → P (f k)) → Each P (values_from f from n)
+values_each P f from zero h = tt
+values_each P f from (suc n) h = (h from (omega arith) (omega arith), values_each P f (suc from) n (λ k a b. h k (omega (arith, a)) (omega (arith, b))))
 
 values_at : {A : Type 0} (f : ℕ → A) (d : A) (from n i : ℕ) → i < n → get_or (values_from f from n) i d ≡ f (from + i)
 values_at f d from zero i lt = absurd (omega arith)

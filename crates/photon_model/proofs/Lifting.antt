@@ -1,10 +1,9 @@
 -- From one node's row to the whole world: the other nodes' facts last.
-use Rattle.std.proofs.Common.{◌≡◌, ◌≢◌, ⊎_elim, ℕ, ◌<◌, ◌≤◌, Bool, true, false, cond, ◌==◌, List, ◌++◌, Some, None, refl, sym, ap, ◌∙◌, subst, arith}
-use Rattle.std.specs.Prelude.{Option, ◌⊎◌}
+use Rattle.std.proofs.Common.{◌≡◌, ◌≢◌, ⊎_elim, ℕ, ◌<◌, ◌≤◌, Bool, true, false, cond, ◌==◌, List, ◌++◌, Some, None, refl, sym, ap, ◌∙◌, subst, arith, Option, ◌⊎◌}
 use Rattle.std.proofs.lemmas.Bool.{cond_both, eq-eqb}
 use Rattle.photon_model.proofs.Worlds.{row_by}
-use Rattle.photon_model.proofs.Words.{dispatcher_start, dispatcher_turn, joiner_start, joiner_turn, replica_start, replica_turn, Insert, Mem, Each, Begins, set_at, Setting, Checked, IsJoiner, Packet, Node, Dispatcher, Server, Replica, Joiner, To, Sent, PairRec, Input, Own, Deliver, DispatcherKept, DispatcherLive, JoinerKept, JoinerLive, ServerKept, ServerLive, ReplicaKept, mem_right, mem_split, each_at, at_set, at_set_if, Addressed, Known, JoinerSound, HoldsOf, HoldsOfInput, DispatcherHolds, JoinerHolds, ServerHolds, IfUp, IfOpen, known, DispatcherFacts, JoinerFacts, ServerFacts, ReplicaFacts, WorldHolds, World, dispatcher_row, server_row, replica_row, joiner_row, sends, WasSent, Grows, PacketsHold, extended, IsDrawing, DispatcherKeeps, JoinerKeeps, ServerKeeps, ReplicaKeeps, IsChosenNow, decided_in, Cell}
-use Rattle.photon_model.proofs.Growth.{begins_self, packet_lasts, dispatcher_kept_lasts, dispatcher_live_lasts, joiner_kept_lasts, joiner_live_lasts, server_lasts, notes_last}
+use Rattle.photon_model.proofs.Words.{dispatcher_start, dispatcher_turn, joiner_start, joiner_turn, replica_start, replica_turn, Insert, Mem, Each, Begins, set_at, Setting, Checked, IsJoiner, Packet, Node, Dispatcher, Server, Replica, Joiner, To, Sent, PairRec, Input, Own, Deliver, DispatcherKept, DispatcherLive, JoinerKept, JoinerLive, ServerKept, ServerLive, ReplicaKept, mem_right, mem_split, each_at, each_more, InsertsOf, at_set, at_set_if, Addressed, Known, JoinerSound, HoldsOf, HoldsOfInput, DispatcherHolds, JoinerHolds, ServerHolds, IfUp, IfOpen, known, DispatcherFacts, JoinerFacts, ServerFacts, ReplicaFacts, WorldHolds, World, dispatcher_row, server_row, replica_row, joiner_row, sends, WasSent, Grows, PacketsHold, extended, IsDrawing, DispatcherKeeps, JoinerKeeps, ServerKeeps, ReplicaKeeps, IsChosenNow, decided_in, Cell}
+use Rattle.photon_model.proofs.Growth.{begins_self, packet_lasts, dispatcher_kept_lasts, dispatcher_live_lasts, joiner_kept_lasts, joiner_live_lasts, shard_lasts, note_lasts}
 use Rattle.photon_model.proofs.Finding.{sent_addressed}
 use Rattle.photon_model.proofs.Dispatching.{dispatcher_keeps, dispatcher_start_keeps}
 use Rattle.photon_model.proofs.Joining.{joiner_keeps, joiner_start_keeps}
@@ -32,10 +31,10 @@ module _ (g : Setting) (a b : Known) (up : Grows a b) (more sent : List Sent) wh
   joiner_lasts j c same h = record { kept = joiner_kept_lasts g a b up j c.kept h.kept; live = if_up (JoinerHolds g a j c.kept) (JoinerHolds g b j c.kept) c.live (λ l x. joiner_live_lasts g a b up j c.kept l same x) h.live; opened = open_lasts more sent (Joiner j) c.opened h.opened }
 
   server_facts_last : (s : ℕ) (c : Cell ServerKept ServerLive) → ServerFacts g a sent s c → ServerFacts g b (more ++ sent) s c
-  server_facts_last s c h = record { live = if_up (ServerHolds g a) (ServerHolds g b) c.live (server_lasts g a b up) h.live; opened = open_lasts more sent (Server s) c.opened h.opened }
+  server_facts_last s c h = record { live = if_up (ServerHolds g a) (ServerHolds g b) c.live (λ l x s. shard_lasts g a b up s (l.shards s) (x s)) h.live; opened = open_lasts more sent (Server s) c.opened h.opened }
 
   replica_lasts : (r : ℕ) (c : Cell ReplicaKept (Unit {0})) → ReplicaFacts g a sent r c → ReplicaFacts g b (more ++ sent) r c
-  replica_lasts r c h = record { kept = notes_last g a b up c.kept.notes h.kept; opened = open_lasts more sent (Replica r) c.opened h.opened }
+  replica_lasts r c h = record { kept = each_more (InsertsOf g a) (InsertsOf g b) c.kept.notes (note_lasts g a b up) h.kept; opened = open_lasts more sent (Replica r) c.opened h.opened }
 
 grows_self : (n : Known) → Grows n n
 grows_self n = record { values = λ s. begins_self (n.values s); pairs = λ j p m. m; drawn = λ x m. m }
@@ -84,7 +83,7 @@ module _ (g : Setting) (w : World) (drawn : List Insert) (holds : WorldHolds g w
           dispatchers = λ t lt. dispatcher_lasts g now then_ up more w.sent t (w.dispatchers t) (holds.dispatchers t lt);
           joiners = λ j i. joiner_lasts g now then_ up more w.sent j (w.joiners j) (λ x m e. m) (holds.joiners j i);
           servers = λ t lt. server_facts_last g now then_ up more w.sent t (w.servers t) (holds.servers t lt);
-          replicas = at_set_if (λ t. t < g.config.replicas) (ReplicaFacts g then_ (more ++ w.sent)) w.replicas r c (record { kept = notes_last g now then_ up c.kept.notes h.kept; opened = h.opened }) (λ t lt ne. replica_lasts g now then_ up more w.sent t (w.replicas t) (holds.replicas t lt));
+          replicas = at_set_if (λ t. t < g.config.replicas) (ReplicaFacts g then_ (more ++ w.sent)) w.replicas r c (record { kept = each_more (InsertsOf g now) (InsertsOf g then_) c.kept.notes (note_lasts g now then_ up) h.kept; opened = h.opened }) (λ t lt ne. replica_lasts g now then_ up more w.sent t (w.replicas t) (holds.replicas t lt));
           drawing = record { joinable = holds.drawing.joinable; joiner = holds.drawing.joiner; epoch = holds.drawing.epoch; one_id = holds.drawing.one_id };
         }
 
@@ -168,15 +167,15 @@ module _ (g : Setting) (w : World) (drawn : List Insert) (holds : WorldHolds g w
       let f = holds.joiners j is in
       let epochs = λ (m : ℕ). (w.joiners m).kept.epoch in
       row_by joiner_start (joiner_turn g j) k (w.joiners j).live (w.joiners j).opened (JoinerKeeps g now j k) (joiner_start_keeps g now epochs j k refl refl holds.drawing f.kept)
-      (λ l up i at. joiner_keeps g now epochs j k l i c is refl holds.drawing f.kept (subst (IfUp (JoinerHolds g now j k)) up f.live) (turn_holds (Joiner j) (w.joiners j).opened f.opened i at))
+      (λ l up i at. joiner_keeps g now epochs j k l c is refl holds.drawing f.kept (subst (IfUp (JoinerHolds g now j k)) up f.live) i (turn_holds (Joiner j) (w.joiners j).opened f.opened i at))
 
   pub server_row_keeps : ((l : ServerLive) (i : Input) → (s : ℕ) → s < 2 → (w.servers s).live ≡ Some l → (w.servers s).opened ≡ Some i → IsChosenNow g now l i) → (s : ℕ) → s < 2 → ServerKeeps g now (server_row g s (w.servers s))
   server_row_keeps chosen s lt = up (w.servers s).live refl (holds.servers s lt).live (w.servers s).opened refl (holds.servers s lt).opened
     where
       up : (l : Option ServerLive) → (w.servers s).live ≡ l → IfUp (ServerHolds g now) l → (o : Option Input) → (w.servers s).opened ≡ o → IfOpen w.sent (Server s) o → ServerKeeps g now (server_row g s (record { kept = (w.servers s).kept; live = l; opened = o }))
       up None e h o u i = server_start_keeps g now (w.servers s).kept
-      up (Some l) e h None u i = server_keeps g now s (w.servers s).kept l Own h tt (λ at b r p v x. absurd (cc))
-      up (Some l) e h (Some x) u i = server_keeps g now s (w.servers s).kept l x h (input_holds (Server s) x i) (chosen l x s lt e u)
+      up (Some l) e h None u i = server_keeps g now s (w.servers s).kept l h Own tt (λ at b r p v x. absurd (cc))
+      up (Some l) e h (Some x) u i = server_keeps g now s (w.servers s).kept l h x (input_holds (Server s) x i) (chosen l x s lt e u)
 
   pub replica_row_keeps : (r : ℕ) → r < g.config.replicas → ReplicaKeeps g now (w.replicas r).kept (replica_row (w.replicas r))
   replica_row_keeps r lt =

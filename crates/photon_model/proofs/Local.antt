@@ -26,9 +26,7 @@ own_one g w (Replica s) (Stop (Replica t) o) = set_own w.replicas (λ k c. stopp
 own_one g w (Joiner s) (Begin (Joiner t) i) = set_own w.joiners (λ k c. begun c i) t s
 own_one g w (Joiner s) (End (Joiner t) o ps kept) = set_own w.joiners (λ k c. ended land_joiner c o (row_of g (Joiner k) c).live) t s
 own_one g w (Joiner s) (Stop (Joiner t) o) = set_own w.joiners (λ k c. stopped land_joiner c o) t s
-own_one g w _ (Begin _ i) = refl
-own_one g w _ (End _ o ps kept) = refl
-own_one g w _ (Stop _ o) = refl
+own_one g w _ _ = refl
 
 pub local_is_own : LocalIsOwn
 local_is_own g w [] n = refl

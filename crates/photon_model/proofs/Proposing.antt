@@ -1,6 +1,5 @@
 -- Each row of a server keeps the facts on ballots.
-use Rattle.std.proofs.Common.{◌≡◌, ◌⊎◌, inl, inr, ⊎_elim, ℕ, suc, ◌<◌, ◌≤◌, max, Bool, true, false, cond, ◌==◌, List, [], ◌∷◌, ◌++◌, length, set, Some, None, refl, sym, ap, ◌∙◌, subst, arith}
-use Rattle.std.specs.Prelude.{Option, slice_get}
+use Rattle.std.proofs.Common.{◌≡◌, ◌⊎◌, inl, inr, ⊎_elim, ℕ, suc, ◌<◌, ◌≤◌, max, Bool, true, false, cond, ◌==◌, List, [], ◌∷◌, ◌++◌, length, set, Some, None, refl, sym, ap, ◌∙◌, subst, arith, Option, slice_get}
 use Rattle.photon_model.proofs.Words.{Ballot, Place, higher, value_for, Phase, is_new, is_most, nobody, on_promise, with_acceptance, on_accepted, Promising, Accepting, Ended, IsGrant, IsOffer, IsAnswered, IsUnheard, IsAsking, IsOffering, IsSafe, IsChosen, votes_in, asks, offers, asks_on, asked, offers_on, accepted_chosen, offer_sent, first_offer, learns_next, Insert, Batch, same_batch, Mem, Each, Begins, set_at, at_set, at_set_if, Setting, shard, Packet, Prepare, Promise, Accept, Accepted, Node, Server, Replica, To, Input, Deliver, Out, idle, ServerKept, ServerLive, ShardState, Proposal, to_replicas, is_current, replies, with_shard, owns, promised, accepted, server_turn, IsOwned, Offer, Votes, offer, Offered, VotesOf, VotesOfPhase, VotesOfProposal, next_place, VotesOfServer, VotesAgree, Known, ServerHolds, IsChosenNow}
 use Rattle.photon_model.proofs.ServerRows.{current_at, replicas_each, reply_each, replies_each, tick_each, every_row, promise_cases, accept_cases}
 use Rattle.photon_model.specs.Journals.{decided}
@@ -125,26 +124,23 @@ module _ (n : Votes) (agree : VotesAgree n) where
 
     -- a current answer is one to the proposal
     module _ (at : Place) (b : Ballot) (p : Proposal) (e : (l.shards at.shard).proposal ≡ Some p) (is : is_current g at b (l.shards at.shard) p ≡ true) where
-      at_here : (at ≡ here at.shard) × (b ≡ p.ballot)
-      at_here = current_at g at b (l.shards at.shard) p is
-
       quietly : (phase : Phase Batch) → VotesOfPhase n (here at.shard) p.ballot phase → Keeps (promised g site k l at (l.shards at.shard) p (phase, None))
       quietly phase f = let a = stood at.shard p e in quiet _ refl (goes at.shard p phase a.site_is a.epoch_is a.round_is f) tt
 
       promise_votes : (r : ℕ) (o : Option (Ballot × Batch)) → IsGrant n.journals r at b o → Keeps (promised g site k l at (l.shards at.shard) p (on_promise p.own p.phase r o))
       promise_votes r o h =
           let a = stood at.shard p e in
-          let grant = moved (λ x y. IsGrant n.journals r x y o) at b p at_here h in
+          let grant = moved (λ x y. IsGrant n.journals r x y o) at b p (current_at g at b (l.shards at.shard) p is) h in
           promise_cases p.own r o (λ y t. VotesOfPhase n (here at.shard) p.ballot y → Keeps (promised g site k l at (l.shards at.shard) p t)) quietly
           (λ marks best most f. let next = asks_on r o f grant in
-          (refl, sends_value at.shard at p (value_for p.own (higher best o)) (length (set marks r true)) refl at_here.0 next.members a.site_is a.epoch_is a.round_is next.unheard (asked p.own (agree.agree (here at.shard)) next most)))
+          (refl, sends_value at.shard at p (value_for p.own (higher best o)) (length (set marks r true)) refl (current_at g at b (l.shards at.shard) p is).0 next.members a.site_is a.epoch_is a.round_is next.unheard (asked p.own (agree.agree (here at.shard)) next most)))
           (λ marks best few f. quietly (Promising (set marks r true) (higher best o)) (asks_on r o f grant)) p.phase a.phase
 
       accepted_votes : (r : ℕ) → IsAnswered n.journals (Offered n) r at b → Keeps (accepted g site k l at (l.shards at.shard) p (on_accepted p.phase r).0 (on_accepted p.phase r).1)
       accepted_votes r h =
           accept_cases r (λ y t. VotesOfPhase n (here at.shard) p.ballot y → Keeps (accepted g site k l at (l.shards at.shard) p t.0 t.1)) quietly
           (λ v marks most f. quiet _ refl (sets at.shard _ tt) (tt, replies_votes ((l.shards at.shard).learned ++ v ∷ []) (l.shards at.shard).queue))
-          (λ v marks few f. quietly (Accepting v (set marks r true)) (offers_on r v (agree.offers (offer (here at.shard) p.ballot v) f.offered) f (moved (λ x y. IsAnswered n.journals (Offered n) r x y) at b p at_here h))) p.phase (stood at.shard p e).phase
+          (λ v marks few f. quietly (Accepting v (set marks r true)) (offers_on r v (agree.offers (offer (here at.shard) p.ballot v) f.offered) f (moved (λ x y. IsAnswered n.journals (Offered n) r x y) at b p (current_at g at b (l.shards at.shard) p is) h))) p.phase (stood at.shard p e).phase
 
     -- where an Accepted makes a majority, the value is decided
     pub chosen_now : (m : Known) → ((s : ℕ) → m.values s ≡ decided n.journals s) → ServerHolds g m l → (i : Input) → ((r : ℕ) (p : Packet) → i ≡ Deliver (Replica r) p → VotesOf n (Replica r) p) → IsChosenNow g m l i
@@ -156,8 +152,6 @@ module _ (n : Votes) (agree : VotesAgree n) where
         (next_of (l.shards at.shard).learned (decided n.journals at.shard) v (learns_next same_batch exact n.journals at.shard (l.shards at.shard).learned v agree.agree (subst (Begins (l.shards at.shard).learned) (values at.shard) (known at.shard).learned) chosen))
       where
         now_chosen : (phase : Phase Batch) → VotesOfPhase n (here at.shard) p.ballot phase → IsAnswered n.journals (Offered n) r (here at.shard) p.ballot → (on_accepted phase r).1 ≡ Some v → IsChosen n.journals (here at.shard) v
-        now_chosen (Promising marks best) f answer is = absurd (cc)
-        now_chosen Ended f answer is = absurd (cc)
         now_chosen (Accepting w marks) f answer is = new (is_new marks r) refl is
           where
             more : IsOffering n.journals (Offered n) (here at.shard) p.ballot w (set marks r true)
@@ -170,6 +164,7 @@ module _ (n : Votes) (agree : VotesAgree n) where
             new : (t : Bool) → is_new marks r ≡ t → (cond {A = Phase Batch × Option Batch} t (with_acceptance w (set marks r true)) (Accepting w marks, None)).1 ≡ Some v → IsChosen n.journals (here at.shard) v
             new true e is = most (is_most (set marks r true)) refl is
             new false e is = absurd (cc)
+        now_chosen _ f answer is = absurd (cc)
 
     pub turn_votes : (i : Input) → ((from : Node) (p : Packet) → i ≡ Deliver from p → VotesOf n from p) → Keeps (server_turn g site k l i)
     turn_votes =

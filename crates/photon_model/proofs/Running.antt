@@ -1,13 +1,11 @@
 -- Each entry of a run keeps all facts, and so they hold after every run.
-use Rattle.std.proofs.Common.{◌≡◌, ◌≢◌, ◌⊎◌, inl, inr, ⊎_elim, ℕ, zero, suc, ◌+◌, ◌*◌, ◌<◌, ◌≤◌, true, List, [], ◌∷◌, ◌++◌, Some, None, refl, sym, ap, ◌∙◌, subst, arith}
-use Rattle.std.specs.Prelude.{Option, slice_get}
+use Rattle.std.proofs.Common.{◌≡◌, ◌≢◌, ◌⊎◌, inl, inr, ⊎_elim, ℕ, zero, suc, ◌+◌, ◌*◌, ◌<◌, ◌≤◌, true, List, [], ◌∷◌, ◌++◌, Some, None, refl, sym, ap, ◌∙◌, subst, arith, Option, slice_get, find}
 use Rattle.std.proofs.lemmas.Bool.{cases_lt}
 use Rattle.photon_model.proofs.Words.{ReplicaKept, EventId, Token, Insert, same_id, Query, ClickLine, at, end_from, Follow, first, Mem, Each, EachPair, set_at, IsGranted, Expired, Setting, first_joiner, Checked, IsJoiner, IsJoin, Dispatcher, Server, Replica, Joiner, PairRec, Input, Note, land, land_dispatcher, dispatcher_at_rest, JoinerLive, land_joiner, land_server, land_replica, each_at, some_same, none_some, at_own, within_end, one_granted, UpWith, Known, values_of, IsWritten, IsMissing, IsDrained, DispatcherSound, PairSound, InsertsOf, Sound, known, IfUp, WorldHolds, World, Entry, Begin, End, Stop, Disks, begun, ended, stopped, dispatcher_row, server_row, replica_row, joiner_row, sends, after, May, opening, extended, PaxosGives, NoJoinerStops}
 use Rattle.photon_model.proofs.Growth.{joiner_kept_lasts, joiner_live_lasts}
 use Rattle.photon_model.proofs.Joining.{grows_extended}
 use Rattle.photon_model.proofs.Fates.{Fates, fates_decided, fates_begun, fates_ended}
 use Rattle.photon_model.proofs.Showing.{found, not_found}
-use Rattle.std.specs.Prelude.{find}
 use Rattle.photon_model.proofs.Worlds.{landed_either}
 use Rattle.photon_model.proofs.Lifting.{addressed_hold, dispatcher_replaced, server_replaced, replica_replaced, joiner_replaced, dispatcher_row_keeps, joiner_row_keeps, server_row_keeps, replica_row_keeps}
 use Rattle.photon_model.specs.Headline.{PairAt}

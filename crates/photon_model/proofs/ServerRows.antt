@@ -1,6 +1,5 @@
 -- The rows of a server: what holds of each row's case holds of every turn.
-use Rattle.std.proofs.Common.{◌≡◌, ℕ, zero, suc, ◌+◌, ◌<◌, Bool, true, false, List, [], ◌∷◌, ◌++◌, length, set, Some, None, refl, arith}
-use Rattle.std.specs.Prelude.{Option}
+use Rattle.std.proofs.Common.{◌≡◌, ℕ, zero, suc, ◌+◌, ◌<◌, Bool, true, false, List, [], ◌∷◌, ◌++◌, length, set, Some, None, refl, arith, Option}
 use Rattle.std.proofs.lemmas.Bool.{cond_both, eqb-true, and_parts}
 use Rattle.photon_model.proofs.Words.{Setting, shard, shards, Ballot, Batch, Insert, Place, Answer, replay, Phase, on_promise, on_accepted, Promising, Accepting, Ended, Mem, Each, Packet, Claim, Reply, Prepare, Promise, Nack, Accept, Accepted, Chosen, Node, Replica, Joiner, To, Only, Input, Own, Tick, Deliver, Out, idle, ServerKept, ServerLive, ShardState, Proposal, to_from, to_replicas, may_propose, is_current, is_own_joiner, reply, replies, with_shard, learns, owns, server_own, promised, accepted, nacked, of_phase, again, all_again, server_tick, from_replica, server_gets, server_turn, option_both, each_append, higher, value_for, is_new, is_most, nobody, with_promise, with_acceptance}
 use Rattle.photon_model.proofs.Finding.{first_is}

@@ -1,6 +1,5 @@
 -- The report of a store names the missing ids, and no other.
-use Rattle.std.proofs.Common.{◌≡◌, ⊎_elim, ℕ, zero, suc, ◌+◌, ◌*◌, ◌<◌, ◌≤◌, List, [], Some, None, refl, sym, ap, ◌∙◌, arith}
-use Rattle.std.specs.Prelude.{Option, find}
+use Rattle.std.proofs.Common.{◌≡◌, ⊎_elim, ℕ, zero, suc, ◌+◌, ◌*◌, ◌<◌, ◌≤◌, List, [], Some, None, refl, sym, ap, ◌∙◌, arith, Option, find}
 use Rattle.photon_model.proofs.Words.{EventId, same_id, same_id-true, same_id-refl, Mem, mem_left, mem_right, mem_split, M, PairRec, Setting, first_joiner, IsWritten, IsMissing, known_of, pairs_from, all_pairs, pair_of, line_by, line_of, Disks}
 use Rattle.photon_model.proofs.Finding.{find_some, find_none}
 

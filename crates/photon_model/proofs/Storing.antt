@@ -1,7 +1,6 @@
 -- The empty store, longer logs, records that stay.
-use Rattle.std.proofs.Common.{◌≡◌, inl, inr, ⊎_elim, ℕ, ◌≤◌, Bool, List, [], ◌∷◌, ◌++◌, Some, sym, subst, arith, refl}
-use Rattle.std.specs.Prelude.{find, Option}
-use Rattle.photon_model.proofs.Words.{Insert, Query, ClickLine, end_from, Follow, IsBoundary, Mem, Begins, Setting, Checked, PairRec, BallotNote, none_some, mem_left, mem_split, each_more, Known, known_of, DispatcherSound, PairSound, DrawnSound, InsertsOf, Sound, SoundStore, accepted_inserts, World, Entry, Disks, after, world_after, Store, WholeSound, empty_disks, ReadIsChecked, IsLonger, set_at, Replica, Joiner, Note, Output, Voted, land, JoinerKept, JoinerLive, land_joiner, ReplicaKept, land_replica, at_set, Begin, End, Stop, begun, Cell}
+use Rattle.std.proofs.Common.{◌≡◌, inl, inr, ⊎_elim, ℕ, ◌≤◌, Bool, List, [], ◌∷◌, ◌++◌, Some, sym, subst, arith, refl, find, Option}
+use Rattle.photon_model.proofs.Words.{Insert, Query, ClickLine, end_from, Follow, IsBoundary, Mem, Begins, Setting, Checked, PairRec, BallotNote, none_some, mem_left, mem_split, each_more, Known, known_of, DispatcherSound, PairSound, DrawnSound, InsertsOf, Sound, SoundStore, accepted_inserts, World, Entry, Disks, after, world_after, Store, WholeSound, empty_disks, ReadIsChecked, IsLonger, set_at, Replica, Joiner, Note, Output, Voted, land, JoinerKept, land_joiner, ReplicaKept, land_replica, at_set, Begin, End, Stop, Cell}
 use Rattle.turn_defs.specs.declared.config.Config.{Config}
 use Rattle.photon_model.proofs.Journals.{journal_beyond, votes_of}
 use Rattle.log_records.proofs.Places.{queries_begin, lines_begin, lines_follow}
@@ -113,30 +112,21 @@ notes_land _ k = begins_self k.notes
 abbrev Stay : World → World → Type 0
 Stay w v = ((j : ℕ) → Begins (w.joiners j).kept.pairs (v.joiners j).kept.pairs) × ((r : ℕ) → Begins (w.replicas r).kept.notes (v.replicas r).kept.notes)
 
-module _ (g : Setting) (w : World) where
-  same_pairs : (j : ℕ) → Begins (w.joiners j).kept.pairs (w.joiners j).kept.pairs
-  same_pairs j = begins_self (w.joiners j).kept.pairs
+-- where a cell is replaced by one whose records begin with the old ones
+cells_stay : {K L A : Type 0} (part : K → List A) (f : ℕ → Cell K L) (n : ℕ) (c : Cell K L) → Begins (part (f n).kept) (part c.kept) → (m : ℕ) → Begins (part (f m).kept) (part (set_at f n c m).kept)
+cells_stay part f n c b = at_set (λ m d. Begins (part (f m).kept) (part d.kept)) f n c b (λ m. begins_self (part (f m).kept))
 
-  same_notes : (r : ℕ) → Begins (w.replicas r).kept.notes (w.replicas r).kept.notes
-  same_notes r = begins_self (w.replicas r).kept.notes
-
-  joiner_stays : (j : ℕ) (c : Cell JoinerKept JoinerLive) → Begins (w.joiners j).kept.pairs c.kept.pairs → (m : ℕ) → Begins (w.joiners m).kept.pairs (set_at w.joiners j c m).kept.pairs
-  joiner_stays j c b = at_set (λ m (d : Cell JoinerKept JoinerLive). Begins (w.joiners m).kept.pairs d.kept.pairs) w.joiners j c b same_pairs
-
-  replica_stays : (r : ℕ) (c : Cell ReplicaKept (Unit {0})) → Begins (w.replicas r).kept.notes c.kept.notes → (m : ℕ) → Begins (w.replicas m).kept.notes (set_at w.replicas r c m).kept.notes
-  replica_stays r c b = at_set (λ m (d : Cell ReplicaKept (Unit {0})). Begins (w.replicas m).kept.notes d.kept.notes) w.replicas r c b same_notes
-
-  one_stays : (e : Entry) → Stay w (after g w e)
-  one_stays (Begin (Replica r) i) = (same_pairs, replica_stays r (begun (w.replicas r) i) (same_notes r))
-  one_stays (Begin (Joiner j) i) = (joiner_stays j (begun (w.joiners j) i) (same_pairs j), same_notes)
-  one_stays (End (Replica r) o ps kept) = (same_pairs, replica_stays r _ (notes_land o (w.replicas r).kept))
-  one_stays (End (Joiner j) o ps kept) = (joiner_stays j _ (pairs_land o (w.joiners j).kept), same_notes)
-  one_stays (Stop (Replica r) o) = (same_pairs, replica_stays r _ (notes_land o (w.replicas r).kept))
-  one_stays (Stop (Joiner j) o) = (joiner_stays j _ (pairs_land o (w.joiners j).kept), same_notes)
-  one_stays _ = (same_pairs, same_notes)
+one_stays : (g : Setting) (w : World) (e : Entry) → Stay w (after g w e)
+one_stays g w (Begin (Replica r) i) = (λ j. begins_self _, cells_stay (λ (k : ReplicaKept). k.notes) w.replicas r _ (begins_self (w.replicas r).kept.notes))
+one_stays g w (Begin (Joiner j) i) = (cells_stay (λ (k : JoinerKept). k.pairs) w.joiners j _ (begins_self (w.joiners j).kept.pairs), λ r. begins_self _)
+one_stays g w (End (Replica r) o ps kept) = (λ j. begins_self _, cells_stay (λ (k : ReplicaKept). k.notes) w.replicas r _ (notes_land o (w.replicas r).kept))
+one_stays g w (End (Joiner j) o ps kept) = (cells_stay (λ (k : JoinerKept). k.pairs) w.joiners j _ (pairs_land o (w.joiners j).kept), λ r. begins_self _)
+one_stays g w (Stop (Replica r) o) = (λ j. begins_self _, cells_stay (λ (k : ReplicaKept). k.notes) w.replicas r _ (notes_land o (w.replicas r).kept))
+one_stays g w (Stop (Joiner j) o) = (cells_stay (λ (k : JoinerKept). k.pairs) w.joiners j _ (pairs_land o (w.joiners j).kept), λ r. begins_self _)
+one_stays g w _ = (λ j. begins_self _, λ r. begins_self _)
 
 pub records_stay : (g : Setting) (w : World) (es : List Entry) → Stay w (world_after g w es)
-records_stay g w [] = (same_pairs g w, same_notes g w)
+records_stay g w [] = (λ j. begins_self _, λ r. begins_self _)
 records_stay g w (e ∷ es) =
     let a = one_stays g w e in
     let b = records_stay g (after g w e) es in

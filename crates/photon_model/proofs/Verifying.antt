@@ -1,8 +1,6 @@
 -- What verification says of a store's records is what the report says.
-use Rattle.std.proofs.Common.{◌≡◌, ℕ, zero, suc, ◌*◌, ◌&&◌, true, not, List, [], ◌++◌, ◌↔◌, refl, sym, ap, ◌∙◌, arith}
-use Rattle.std.specs.Prelude.{Option, IsSome, is_some}
-use Rattle.std.specs.List.{flat_map}
-use Rattle.photon_model.proofs.Words.{EventId, Token, Batch, same_batch, holder, decided, PairRec, Setting, first_joiner, shard, BallotNote, values_from, pairs_from, decided_for, pair_of, Disks, IsWritten, IsMissing, known_of}
+use Rattle.std.proofs.Common.{◌≡◌, ℕ, zero, suc, ◌*◌, ◌&&◌, true, not, List, [], ◌++◌, ◌↔◌, refl, sym, ap, ◌∙◌, arith, Option, IsSome, is_some, flat_map}
+use Rattle.photon_model.proofs.Words.{EventId, Token, same_batch, holder, decided, PairRec, Setting, first_joiner, shard, BallotNote, values_from, pairs_from, decided_for, pair_of, Disks, IsWritten, IsMissing, known_of}
 use Rattle.photon_model.specs.Report as report
 use Rattle.verify_pass.specs.declared.journals.Journals.{Journals}
 use Rattle.verify_pass.specs.Classes as classes
@@ -28,10 +26,7 @@ module _ (g : Setting) (d : Disks) (js : Journals) (own : AreOf g d js) (i : Eve
   line_by o = grind arith
 
   pub line : classes.line_of js g.config.table i ≡ report.line_of g d i
-  line =
-      ap (λ (vs : List Batch). classes.line_by vs i (classes.first_pair (classes.all_pairs js) i)) values
-      ∙ ap (λ (o : Option PairRec). classes.line_by (decided_for g d i) i o) pair
-      ∙ line_by (pair_of g d i)
+  line = grind (arith, pair)
 
   -- where the report has a pair the id is written
   is_written : (o : Option PairRec) → pair_of g d i ≡ o → IsSome o → IsWritten g (known_of g d []) i
@@ -51,10 +46,4 @@ module _ (g : Setting) (d : Disks) (js : Journals) (own : AreOf g d js) (i : Eve
   shown t o h e m = grind (arith, written)
 
   pub missing : (classes.is_missing js g.config.table i ≡ true) ↔ IsMissing g (known_of g d []) i
-  missing = (
-    shows (holder (classes.decided_for js g.config.table i) i) (classes.first_pair (classes.all_pairs js) i) held (sym pair),
-    shown (holder (classes.decided_for js g.config.table i) i) (classes.first_pair (classes.all_pairs js) i) held (sym pair),
-  )
-    where
-      held : holder (decided_for g d i) i ≡ holder (classes.decided_for js g.config.table i) i
-      held = ap (λ (vs : List Batch). holder vs i) (sym values)
+  missing = grind (arith, shows, pair, shown)

@@ -72,19 +72,16 @@ module _ (n : Votes) (new : List Offer) (epochs : ℕ → ℕ) (up : (s : ℕ) �
   abbrev pub sent : Votes
   sent = record { journals = n.journals; offered = new ++ n.offered; epochs = epochs }
 
-  pub offered_sent : (at : Place) (b : Ballot) (v : Batch) → Offered n at b v → Offered sent at b v
-  offered_sent at b v m = mem_right (offer at b v) new n.offered m
-
   pub owned_sent : (b : Ballot) → IsOwned n.epochs b → IsOwned epochs b
   owned_sent b h = (h.0, let p = h.1 in let q = up b.site in omega arith)
 
   accepted_sent : (from : Node) (at : Place) (b : Ballot) → AcceptedBy n from at b → AcceptedBy sent from at b
-  accepted_sent from at b h = grind (arith, offered_sent)
+  accepted_sent from at b h = grind (arith, mem_right)
 
   pub votes_sent : (from : Node) (p : Packet) → VotesOf n from p → VotesOf sent from p
   votes_sent from (Prepare at b) h = owned_sent b h
   votes_sent from (Promise at b o) h = grind arith
-  votes_sent from (Accept at b v) h = offered_sent at b v h
+  votes_sent from (Accept at b v) h = mem_right (offer at b v) new n.offered h
   votes_sent from (Accepted at b) h = accepted_sent from at b h
   votes_sent from (Nack at b c) h = grind arith
   votes_sent from _ h = h
@@ -95,7 +92,7 @@ module _ (n : Votes) (new : List Offer) (epochs : ℕ → ℕ) (up : (s : ℕ) �
 
   phase_sent : (at : Place) (b : Ballot) (phase : Phase Batch) → AreElsewhere at b → VotesOfPhase n at b phase → VotesOfPhase sent at b phase
   phase_sent at b (Promising marks best) apart h = asking_sent n.journals at b marks best (λ w m. ⊎_elim (λ q. absurd (apart (offer at b w) q refl refl)) (λ q. q) (mem_split (offer at b w) new n.offered m)) h
-  phase_sent at b (Accepting v marks) apart h = offering_sent n.journals at b v marks (offered_sent at b v) h
+  phase_sent at b (Accepting v marks) apart h = offering_sent n.journals at b v marks (mem_right (offer at b v) new n.offered) h
   phase_sent at b Ended apart h = h
 
   pub proposal_sent : (site epoch round now : ℕ) (at : Place) (o : Option Proposal) → round ≤ now → ((p : Proposal) → o ≡ Some p → AreElsewhere at p.ballot) → VotesOfProposal n site epoch round at o → VotesOfProposal sent site epoch now at o
@@ -188,15 +185,12 @@ module _ (n : Votes) (agree : VotesAgree n) (r : ℕ) (within : r < length n.jou
   -- ---- the journals after a note
 
   module _ (x : BallotNote) (may : MayWrite n r x) where
-    pub writes_note : (at : Place) → Writes (Offered n) n.journals (noted n.journals r x) at
-    writes_note at = note_writes (Offered n) n.journals r x at within (may.0 at)
-
     pub agree_noted : VotesAgree (with_note n r (Some (Voted x)))
     agree_noted =
         record {
           agree = λ at. note_agrees (Offered n) n.journals r x at within (may.0 at) (agree.agree at);
-          offers = λ y m. offer_written (writes_note y.place) y.ballot y.value (agree.offers y m);
-          took = λ at k b v h. ⊎_elim (λ o. agree.took at k b v o) (λ s. s) ((writes_note at).came k b v h);
+          offers = λ y m. offer_written (note_writes (Offered n) n.journals r x y.place within (may.0 y.place)) y.ballot y.value (agree.offers y m);
+          took = λ at k b v h. ⊎_elim (λ o. agree.took at k b v o) (λ s. s) ((note_writes (Offered n) n.journals r x at within (may.0 at)).came k b v h);
           owned_offers = agree.owned_offers;
           owned_notes = λ at k y h. grind (arith, has_split, votes_noted, votes_others);
         }

@@ -1,8 +1,6 @@
 -- Whole stores: the topology is written first, and stays.
-use Rattle.std.proofs.Common.{◌≡◌, true, List, [], Some, refl, sym}
-use Rattle.std.proofs.lemmas.Bool.{true≢false}
+use Rattle.std.proofs.Common.{◌≡◌, true, List, [], Some, refl, sym, true≢false, Bool}
 use Rattle.turn_defs.specs.declared.node.Node.{Node}
-use Rattle.std.specs.Prelude.{Bool}
 use Rattle.turn_defs.specs.Setting.{Setting, Checked}
 use Rattle.photon_model.specs.Topology.{Store, WholeSound, topology_of}
 use Rattle.photon_model.specs.Runs.{Entry, world_after, IsRun, opening}

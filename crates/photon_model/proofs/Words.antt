@@ -12,64 +12,47 @@ pub use Rattle.photon_model.specs.Sound.{DispatcherSound, DrawnSound, HasNoQuery
 pub use Rattle.photon_model.specs.Stores.{IsLonger, ReadIsChecked, RunsKeepWhole, TopologyComesFirst, empty_disks, empty_store}
 pub use Rattle.photon_model.specs.Topology.{IsBlank, Store, Topology, WholeSound, topology_of}
 pub use Rattle.turn_defs.proofs.ShardsBelow.{shard_below}
-pub use Rattle.turn_defs.specs.Dispatcher.{DispatcherKept, DispatcherLive, Fresh, advances, after_done, dispatcher_at_rest, dispatcher_gets, dispatcher_joined, dispatcher_own, dispatcher_start, dispatcher_tick, dispatcher_turn, dispatcher_unfinished, dispatcher_wants, done_end, ends, first_done, fresh_joins, has_room, join, join_if, land_dispatcher, mark, mark_one, parks, retries, some_waits, taken as taken_line, takes, trying_joins, waits, with_room}
-pub use Rattle.turn_defs.specs.Joiner.{Flight, JoinerKept, JoinerLive, answers, claim, in_flight, insert_of, is_for, joiner_at_rest, joiner_start, joiner_tick, joiner_turn, joiner_unfinished, land_joiner, landed, looks, next_token, replied, to_dispatcher, without_flight}
-pub use Rattle.turn_defs.specs.Nodes.{Addressed, IsNode, IsTo, NumbersAreNodes, node_count, node_number, node_of}
+pub use Rattle.photon_model.specs.Terms.{Accept, Accepting, Addressed, Already, Ballot, BallotNote, Batch, Begins, Busy, Checked, Chosen, ClickLine, Deliver, Dispatcher, DispatcherKept, DispatcherLive, Duplicate, Each, EachPair, Ended, EventId, Expired, Flight, Fresh, Granted, HasAccepted, Input, Insert, IsBoundary, IsGranted, IsJoin, IsJoiner, IsNode, J, Join, Joined, Joiner, JoinerKept, JoinerLive, JournalsAgree, M, Mem, Nack, NoQuery, Node, Note, OneChosen, Out, Output, Own, Packet, PairRec, Phase, Place, Prepare, Promise, Promised, Promising, Proposal, Registered, Replica, ReplicaKept, Reply, Sent, Server, ServerKept, ServerLive, Setting, ShardState, Start, Tick, Token, TooOld, U, Voted, Written, X, at, bound_of, dispatcher_at_rest, dispatcher_start, dispatcher_turn, dispatcher_unfinished, dispatcher_wants, end_from, first, first_joiner, has, holder, idle, insert_of, is_current, joiner_at_rest, joiner_start, joiner_turn, joiner_unfinished, land, land_dispatcher, land_joiner, land_replica, land_server, on_accepted, replica_start, replica_turn, server_at_rest, server_start, server_turn, server_unfinished, server_wants, set_at, shard, shards, waits, worked}
+pub use Rattle.turn_defs.specs.Dispatcher.{advances, after_done, dispatcher_gets, dispatcher_joined, dispatcher_own, dispatcher_tick, done_end, ends, first_done, fresh_joins, has_room, join, join_if, mark, mark_one, parks, retries, some_waits, taken as taken_line, takes, trying_joins, with_room}
+pub use Rattle.turn_defs.specs.Joiner.{answers, claim, in_flight, is_for, joiner_tick, landed, looks, next_token, replied, to_dispatcher, without_flight}
+pub use Rattle.turn_defs.specs.Nodes.{IsTo, NumbersAreNodes, node_count, node_number, node_of}
 pub use Rattle.turn_defs.specs.Packets.{IsPacket, packet}
-pub use Rattle.turn_defs.specs.Replica.{ReplicaKept, cell_at, land_replica, note_at, prepared, replica_gets, replica_start, replica_turn, says, taken}
-pub use Rattle.turn_defs.specs.Rows.{worked}
-pub use Rattle.turn_defs.specs.Sent.{Sent}
-pub use Rattle.turn_defs.specs.Server.{Proposal, ServerKept, ServerLive, ShardState, accepted, again, all_again, claimed, empty_shard, first_shard, from_replica, gets_accepted, gets_nack, gets_promise, goes_on, is_below_limit, is_current, is_free, is_next, is_own_joiner, land_server, learns, may_propose, nacked, of_phase, owns, promised, queued, replies, reply, server_at_rest, server_gets, server_own, server_start, server_tick, server_turn, server_unfinished, server_wants, shard_unfinished, to_from, to_replicas, unanswered, with_shard}
-pub use Rattle.turn_defs.specs.Setting.{Checked, IsJoin, IsJoiner, Setting, first_joiner, shard, shards, site_of_joiner}
+pub use Rattle.turn_defs.specs.Replica.{cell_at, note_at, prepared, replica_gets, says, taken}
+pub use Rattle.turn_defs.specs.Server.{accepted, again, all_again, claimed, empty_shard, first_shard, from_replica, gets_accepted, gets_nack, gets_promise, goes_on, is_below_limit, is_free, is_next, is_own_joiner, learns, may_propose, nacked, of_phase, owns, promised, queued, replies, reply, server_gets, server_own, server_tick, shard_unfinished, to_from, to_replicas, unanswered, with_shard}
+pub use Rattle.turn_defs.specs.Setting.{site_of_joiner}
 pub use Rattle.turn_defs.specs.Spellings.{IsPair}
-pub use Rattle.turn_defs.specs.Turns.{BallotNote, Note, Out, Output, Park, Settle, Voted, idle, is_empty, land}
-pub use Rattle.turn_defs.specs.declared.node.Input.{Input}
-pub use Rattle.turn_defs.specs.declared.node.Input.TheVariants.{Deliver, Own, Start, Tick}
-pub use Rattle.turn_defs.specs.declared.node.Node.{Node}
-pub use Rattle.turn_defs.specs.declared.node.Node.TheVariants.{Dispatcher, Joiner, Replica, Server}
+pub use Rattle.turn_defs.specs.Turns.{Park, Settle, is_empty}
 pub use Rattle.turn_defs.specs.declared.node.To.{To}
 pub use Rattle.turn_defs.specs.declared.node.To.TheVariants.{AnyJoiner, Only}
 pub use Rattle.turn_defs.specs.declared.packet.Outcome.{Outcome}
-pub use Rattle.turn_defs.specs.declared.packet.Outcome.TheVariants.{Already, Busy, NoQuery, TooOld as Late, Written}
-pub use Rattle.turn_defs.specs.declared.packet.Packet.{Packet}
-pub use Rattle.turn_defs.specs.declared.packet.Packet.TheVariants.{Accept, Accepted, Chosen, Insert as Claim, Join, Joined, Nack, Prepare, Promise, Reply}
-pub use Rattle.turn_defs.specs.declared.pair.PairRec.{PairRec}
+pub use Rattle.turn_defs.specs.declared.packet.Outcome.TheVariants.{TooOld as Late}
+pub use Rattle.turn_defs.specs.declared.packet.Packet.TheVariants.{Accepted, Insert as Claim}
 pub use Rattle.registry_state.proofs.LookingBack.{Replays, bound_stays, get_front, granted_means, granted_settles, granted_stays, holder_first, holder_granted, one_granted, replay_means, settled_stays}
 pub use Rattle.registry_state.proofs.Tests.{same_batch-refl, same_batch-true, same_id-false, same_id-refl, same_id-true, same_token-refl, same_token-true}
-pub use Rattle.registry_state.specs.LookBack.{Expired, IsGranted, Registered, bound_at, bound_of, first_insert, holder, replay}
+pub use Rattle.registry_state.specs.LookBack.{bound_at, first_insert, replay}
 pub use Rattle.registry_state.specs.Same.{same_batch, same_token}
 pub use Rattle.registry_state.specs.declared.TheConstants.{MOST_WAITING}
 pub use Rattle.registry_state.specs.declared.Answer.{Answer}
-pub use Rattle.registry_state.specs.declared.Answer.TheVariants.{Duplicate, Granted, TooOld}
-pub use Rattle.registry_state.specs.declared.Batch.{Batch}
-pub use Rattle.registry_state.specs.declared.Insert.{Insert}
-pub use Rattle.registry_state.specs.declared.Token.{Token}
 pub use Rattle.paxos_defs.proofs.Agreement.{agreed_one}
 pub use Rattle.paxos_defs.proofs.Facts.{Suits, accepted as accepted_chosen, answer_written, asked, asking_sent, asking_written, asks, asks_on, decided_grows, first_offer, grant_written, learns_next, note_agrees, note_writes, offer_sent, offer_written, offering_sent, offering_written, offers, offers_on, refusal_written, vote_suits}
 pub use Rattle.paxos_defs.proofs.Places.{cell_noted, has_split, noted, place_true, vote_here, votes_noted, votes_others}
 pub use Rattle.paxos_defs.proofs.Votes.{has_last}
-pub use Rattle.paxos_defs.specs.Agreement.{HasAccepted, IsChosen, IsSafe, JournalsAgree, OneChosen}
-pub use Rattle.paxos_defs.specs.Attempts.{Phase, is_most, is_new, nobody, on_accepted, on_promise, with_acceptance, with_promise}
-pub use Rattle.paxos_defs.specs.Attempts.Phase.{Accepting, Ended, Promising}
+pub use Rattle.paxos_defs.specs.Agreement.{IsChosen, IsSafe}
+pub use Rattle.paxos_defs.specs.Attempts.{is_most, is_new, nobody, on_promise, with_acceptance, with_promise}
 pub use Rattle.paxos_defs.specs.Decided.{IsExact, decided}
 pub use Rattle.paxos_defs.specs.Facts.{IsAnswered, IsAsking, IsGrant, IsOffer, IsOffering, IsUnheard, Writes}
 pub use Rattle.paxos_defs.specs.Notes.{Cell as VotesCell, Has, Vote, acceptance, blank, cell_after, cell_from, cell_of, is_place, note_of, promise, vote_at, votes as votes_in, votes_at}
-pub use Rattle.paxos_defs.specs.Notes.Note.{Accepted as Took, Promised}
+pub use Rattle.paxos_defs.specs.Notes.Note.{Accepted as Took}
 pub use Rattle.paxos_defs.specs.Turns.{Prepared, Taken, accept_under, higher, is_accepted, on_accept, on_prepare, prepare_under, value_for, vote_anew}
 pub use Rattle.paxos_defs.specs.Turns.Prepared.{Grant, Refuse}
 pub use Rattle.paxos_defs.specs.Turns.Taken.{Decline, Take}
-pub use Rattle.paxos_defs.specs.declared.Place.{Place}
 pub use Rattle.log_records.proofs.LineOrder.{at_mem, at_own, before_end, within_end}
-pub use Rattle.log_records.specs.Lines.{ClickLine, Follow, IsBoundary, NoConflict, at, end_from, first_click}
-pub use Rattle.log_records.specs.Log.{first}
+pub use Rattle.log_records.specs.Lines.{Follow, NoConflict, first_click}
 pub use Rattle.log_records.specs.declared.records.ClickRec.{ClickRec as Click}
 pub use Rattle.log_records.specs.declared.records.QueryRec.{QueryRec as Query}
-pub use Rattle.log_records.specs.declared.report.ReportLine.TheVariants.{J, M, U, X}
 pub use Rattle.ballot_core.proofs.Order.{below_false, below_true, compared, not_above, same_false, same_true, upto_trans}
 pub use Rattle.ballot_core.specs.Ballots.{IsBelow, IsUpTo, is_below, is_same}
 pub use Rattle.ballot_core.specs.Majority.{Majority, marked}
-pub use Rattle.ballot_core.specs.declared.Ballot.{Ballot}
 pub use Rattle.event_id.specs.EventId.{id_cmp, is_same as same_id}
-pub use Rattle.event_id.specs.declared.id.EventId.{EventId}
 pub use Rattle.list_words.proofs.Lists.{at_set, at_set_if, clash, distinct_push, distinct_without, each_append, each_at, each_from, each_more, has_push-false, has_push-left, has_push-or, has_push-right, has_without, has_without-false, has_without-self, has_without-true, mem_left, mem_right, mem_split, none_some, option_both, pairs_push, some_same}
-pub use Rattle.list_words.specs.Lists.{Begins, Each, EachPair, Mem, has, set_at, without}
+pub use Rattle.list_words.specs.Lists.{without}

@@ -1,9 +1,7 @@
 -- A row that is put behind a table's rows, where nothing that a replica accepted forbids its start: a sound store stays sound, and
 -- its report the same.
 use Rattle.std.specs.Prelude.{◌≡◌, ◌≢◌, ℕ, Some, ◌++◌, ◌∷◌, [], None}
-use Rattle.event_id.specs.declared.id.EventId.{EventId}
-use Rattle.time_shards.specs.declared.ShardRow.{ShardRow}
-use Rattle.turn_defs.specs.Setting.{Setting, shard}
+use Rattle.photon_model.specs.Terms.{EventId, Setting, ShardRow, shard}
 use Rattle.verify_pass.specs.TooSoon.{all_batches, too_soon_for}
 use Rattle.photon_model.specs.Journals.{journals}
 use Rattle.photon_model.specs.Report.{report}

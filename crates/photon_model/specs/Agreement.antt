@@ -1,20 +1,9 @@
 -- The facts of packets and proposals on ballots: Paxos' own, over the packets, servers and journals here.
 use Rattle.std.specs.Prelude.{◌≡◌, ℕ, ◌<◌, ◌≤◌, List, length, Option, Some, None, ⊤}
-use Rattle.ballot_core.specs.declared.Ballot.{Ballot}
-use Rattle.paxos_defs.specs.declared.Place.{Place}
+use Rattle.photon_model.specs.Terms.{Accept, Accepting, Ballot, BallotNote, Batch, Chosen, Dispatcher, Ended, HasAccepted, Join, Joined, Joiner, JournalsAgree, Mem, Nack, Node, Packet, Phase, Place, Prepare, Promise, Promising, Proposal, Replica, Reply, Server, ServerLive, ShardState}
 use Rattle.paxos_defs.specs.Notes.{Vote, votes, Has}
-use Rattle.paxos_defs.specs.Agreement.{HasAccepted, JournalsAgree}
-use Rattle.paxos_defs.specs.Attempts.{Phase}
-use Rattle.paxos_defs.specs.Attempts.Phase.{Promising, Accepting, Ended}
 use Rattle.paxos_defs.specs.Facts.{IsGrant, IsRefusal, IsOffer, IsAnswered, IsAsking, IsOffering}
-use Rattle.registry_state.specs.declared.Batch.{Batch}
-use Rattle.list_words.specs.Lists.{Mem}
-use Rattle.turn_defs.specs.declared.packet.Packet.{Packet}
-use Rattle.turn_defs.specs.declared.packet.Packet.TheVariants.{Join, Joined, Insert, Reply, Prepare, Promise, Nack, Accept, Accepted, Chosen}
-use Rattle.turn_defs.specs.declared.node.Node.{Node}
-use Rattle.turn_defs.specs.declared.node.Node.TheVariants.{Dispatcher, Server, Replica, Joiner}
-use Rattle.turn_defs.specs.Turns.{BallotNote}
-use Rattle.turn_defs.specs.Server.{ServerLive, ShardState, Proposal}
+use Rattle.turn_defs.specs.declared.packet.Packet.TheVariants.{Insert, Accepted}
 
 -- a ballot of a server whose kept epoch is no lower
 abbrev pub IsOwned : (ℕ → ℕ) → Ballot → Type 0

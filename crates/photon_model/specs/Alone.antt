@@ -1,11 +1,6 @@
 -- A ballot is drawn for one place alone.
 use Rattle.std.specs.Prelude.{◌≡◌, List, ◌<◌}
-use Rattle.ballot_core.specs.declared.Ballot.{Ballot}
-use Rattle.registry_state.specs.declared.Batch.{Batch}
-use Rattle.turn_defs.specs.Setting.{Setting}
-use Rattle.turn_defs.specs.declared.packet.Packet.TheVariants.{Prepare, Accept}
-use Rattle.paxos_defs.specs.declared.Place.{Place}
-use Rattle.turn_defs.specs.Sent.{Sent}
+use Rattle.photon_model.specs.Terms.{Accept, Ballot, Batch, Place, Prepare, Sent, Setting}
 use Rattle.photon_model.specs.Runs.{Entry, Disks, world_after, IsRun, opening}
 use Rattle.photon_model.specs.Claims.{HasSent}
 

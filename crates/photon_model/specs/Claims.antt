@@ -1,11 +1,7 @@
 -- Each join in flight has sent its insert.
 use Rattle.std.specs.Prelude.{◌≡◌, ℕ, List, Some}
-use Rattle.list_words.specs.Lists.{Mem}
-use Rattle.turn_defs.specs.Setting.{Setting}
-use Rattle.turn_defs.specs.declared.packet.Packet.{Packet}
+use Rattle.photon_model.specs.Terms.{Flight, JoinerLive, Mem, Packet, Sent, Setting, insert_of}
 use Rattle.turn_defs.specs.declared.packet.Packet.TheVariants.{Insert}
-use Rattle.turn_defs.specs.Sent.{Sent}
-use Rattle.turn_defs.specs.Joiner.{JoinerLive, Flight, insert_of}
 use Rattle.photon_model.specs.Runs.{World, Entry, Disks, world_after, IsRun, opening}
 
 abbrev pub HasSent : List Sent → Packet → Type 0

@@ -1,16 +1,6 @@
 -- What holds after every run. A run begins with all nodes down and nothing sent, over checked logs and a sound store.
 use Rattle.std.specs.Prelude.{◌≡◌, ◌⊎◌, ℕ, ◌<◌, ◌≤◌, List, [], ◌∷◌, Some, ⊤}
-use Rattle.event_id.specs.declared.id.EventId.{EventId}
-use Rattle.registry_state.specs.declared.Token.{Token}
-use Rattle.ballot_core.specs.declared.Ballot.{Ballot}
-use Rattle.registry_state.specs.declared.Insert.{Insert}
-use Rattle.registry_state.specs.declared.Batch.{Batch}
-use Rattle.registry_state.specs.LookBack.{holder, bound_of}
-use Rattle.list_words.specs.Lists.{Mem}
-use Rattle.turn_defs.specs.Setting.{Setting, Checked, shards}
-use Rattle.turn_defs.specs.declared.node.Node.TheVariants.{Dispatcher, Server, Replica, Joiner}
-use Rattle.paxos_defs.specs.declared.Place.{Place}
-use Rattle.paxos_defs.specs.Notes.Note.{Accepted}
+use Rattle.photon_model.specs.Terms.{Accepted, Ballot, Batch, Checked, Dispatcher, EventId, Insert, Joiner, Mem, Place, Replica, Server, Setting, Token, bound_of, holder, shards}
 use Rattle.photon_model.specs.Journals.{journals, decided}
 use Rattle.photon_model.specs.Sound.{values_of, IsWritten, IsDrained, accepted_inserts, SoundStore}
 use Rattle.photon_model.specs.Facts.{known, WorldHolds}

@@ -1,14 +1,10 @@
 -- From the empty store: the report of what a run leaves at rest is that of the two logs, but for clicks that are missing.
 use Rattle.std.specs.Prelude.{◌≡◌, ◌⊎◌, ◌≤◌, List, map, Some}
-use Rattle.list_words.specs.Lists.{Mem}
+use Rattle.photon_model.specs.Terms.{Checked, ClickLine, M, Mem, Setting, first}
 use Rattle.time_shards.specs.Shards.{IsTable}
 use Rattle.log_records.specs.declared.records.QueryRec.{QueryRec as Query}
 use Rattle.log_records.specs.declared.records.ClickRec.{ClickRec as Click}
-use Rattle.log_records.specs.Lines.{ClickLine}
-use Rattle.log_records.specs.Log.{first}
 use Rattle.log_records.specs.Report as logs
-use Rattle.log_records.specs.declared.report.ReportLine.TheVariants.{M}
-use Rattle.turn_defs.specs.Setting.{Setting, Checked}
 use Rattle.photon_model.specs.Report.{line_of, report}
 use Rattle.photon_model.specs.Rest.{IsAtRest}
 use Rattle.photon_model.specs.Runs.{Entry, Disks, disks, world_after, IsRun, opening}

@@ -1,25 +1,11 @@
 -- One click is joined, turn by turn; and what is no run, and no sound store.
 use Rattle.std.specs.Prelude.{◌≡◌, ℕ, List, [], ◌∷◌, ◌++◌, length, Option, Some, None}
-use Rattle.ballot_core.specs.declared.Ballot.{Ballot}
-use Rattle.paxos_defs.specs.declared.Place.{Place}
-use Rattle.paxos_defs.specs.Notes.Note.{Promised, Accepted}
-use Rattle.registry_state.specs.declared.Answer.TheVariants.{Granted, Duplicate}
-use Rattle.log_records.specs.Rows.{one_query, one_click}
-use Rattle.turn_defs.specs.declared.pair.PairRec.{PairRec}
-use Rattle.turn_defs.specs.declared.packet.Packet.{Packet}
+use Rattle.photon_model.specs.Terms.{Accepted, Advance, Already, Ballot, Deliver, Dispatcher, Duplicate, Epoch, Granted, Input, Insert, Joiner, Node, Note, Output, Own, Packet, PairRec, Place, Promised, Replica, Server, Start, Voted, Written, insert, one_batch, one_click, one_query, token, worked}
 use Rattle.turn_defs.specs.declared.packet.Packet.TheVariants as packet
-use Rattle.turn_defs.specs.declared.packet.Outcome.TheVariants.{Written, Already}
-use Rattle.turn_defs.specs.declared.node.Node.{Node}
-use Rattle.turn_defs.specs.declared.node.Node.TheVariants.{Dispatcher, Server, Replica, Joiner}
-use Rattle.turn_defs.specs.declared.node.Input.{Input}
-use Rattle.turn_defs.specs.declared.node.Input.TheVariants.{Start, Own, Deliver}
-use Rattle.turn_defs.specs.Turns.{Note, Advance, Epoch, Output, Voted}
-use Rattle.turn_defs.specs.Rows.{worked, token, insert, one_batch}
 use Rattle.photon_model.specs.Rows.{store, one_pair, only_bound}
 use Rattle.photon_model.specs.Sound.{SoundStore}
 use Rattle.photon_model.specs.Runs.{World, Entry, Begin, End, Stop, Disks, world_after, IsRun, opening}
 use Rattle.photon_model.specs.Rest.{IsAtRest}
-use Rattle.registry_state.specs.declared.Insert.{Insert}
 use Rattle.photon_model.specs.Stores.{empty_disks}
 
 -- a turn that begins and ends before any other entry

@@ -1,35 +1,12 @@
 -- The facts of packets and of what nodes know: what holds at every moment of a run. A fact that holds of a packet goes
 -- on to hold, whatever happens after it was sent.
 use Rattle.std.specs.Prelude.{◌≡◌, ◌≢◌, ◌⊎◌, ℕ, ◌<◌, ◌≤◌, true, false, MatchBool, List, [], ◌∷◌, length, Option, Some, None, ⊤, slice_get}
-use Rattle.event_id.specs.declared.id.EventId.{EventId}
-use Rattle.ballot_core.specs.declared.Ballot.{Ballot}
-use Rattle.registry_state.specs.declared.Insert.{Insert}
-use Rattle.registry_state.specs.declared.Batch.{Batch}
-use Rattle.log_records.specs.Lines.{ClickLine, at}
-use Rattle.log_records.specs.Log.{first}
+use Rattle.photon_model.specs.Terms.{Accept, Accepting, Already, Ballot, Batch, Begins, Busy, Chosen, ClickLine, Deliver, Dispatcher, DispatcherKept, DispatcherLive, Distinct, Duplicate, Each, EachPair, Ended, EventId, Flight, Fresh, Granted, Input, Insert, IsGranted, IsJoin, IsJoiner, Join, Joined, Joiner, JoinerKept, JoinerLive, Mem, Nack, NoQuery, Node, Own, Packet, PairRec, Phase, Prepare, Promise, Promising, Proposal, Replica, ReplicaKept, Reply, Sent, Server, ServerKept, ServerLive, Setting, ShardState, Start, Tick, TooOld, Written, at, bound_of, first, has, insert_of}
 use Rattle.registry_state.specs.declared.Answer.{Answer}
-use Rattle.registry_state.specs.declared.Answer.TheVariants.{Granted, Duplicate, TooOld}
-use Rattle.registry_state.specs.LookBack.{IsGranted, bound_of}
-use Rattle.list_words.specs.Lists.{Mem, Each, EachPair, Begins, Distinct, has}
-use Rattle.turn_defs.specs.Setting.{Setting, IsJoiner, IsJoin}
-use Rattle.turn_defs.specs.declared.packet.Packet.{Packet}
-use Rattle.turn_defs.specs.declared.packet.Packet.TheVariants.{Join, Joined, Reply, Prepare, Promise, Nack, Accept, Accepted, Chosen}
+use Rattle.turn_defs.specs.declared.packet.Packet.TheVariants.{Accepted}
 use Rattle.turn_defs.specs.declared.packet.Packet.TheVariants as packet
 use Rattle.turn_defs.specs.declared.packet.Outcome.{Outcome}
-use Rattle.turn_defs.specs.declared.packet.Outcome.TheVariants.{Written, Already, NoQuery, Busy}
 use Rattle.turn_defs.specs.declared.packet.Outcome.TheVariants as outcome
-use Rattle.turn_defs.specs.declared.pair.PairRec.{PairRec}
-use Rattle.turn_defs.specs.Sent.{Sent}
-use Rattle.turn_defs.specs.declared.node.Node.{Node}
-use Rattle.turn_defs.specs.declared.node.Node.TheVariants.{Dispatcher, Server, Replica, Joiner}
-use Rattle.turn_defs.specs.declared.node.Input.{Input}
-use Rattle.turn_defs.specs.declared.node.Input.TheVariants.{Start, Own, Tick, Deliver}
-use Rattle.paxos_defs.specs.Attempts.{Phase}
-use Rattle.paxos_defs.specs.Attempts.Phase.{Promising, Accepting, Ended}
-use Rattle.turn_defs.specs.Dispatcher.{DispatcherKept, DispatcherLive, Fresh}
-use Rattle.turn_defs.specs.Joiner.{JoinerKept, JoinerLive, Flight, insert_of}
-use Rattle.turn_defs.specs.Server.{ServerKept, ServerLive, ShardState, Proposal}
-use Rattle.turn_defs.specs.Replica.{ReplicaKept}
 use Rattle.photon_model.specs.Sound.{Known, values_of, IsWritten, IsSettled, HasNoQuery, DispatcherSound, JoinerSound, DrawnSound, IsInsertOf, InsertsOf, known_of}
 use Rattle.photon_model.specs.Runs.{Cell, World, WasSent, disks}
 

@@ -1,16 +1,7 @@
 -- What every run keeps, in plain words. Turns, losses, repeats, reorderings and stops follow one another in any order.
 use Rattle.std.specs.Prelude.{◌≡◌, ◌⊎◌, ℕ, ◌<◌, List, [], Some, slice_get}
-use Rattle.event_id.specs.declared.id.EventId.{EventId}
-use Rattle.list_words.specs.Lists.{Mem, Begins}
+use Rattle.photon_model.specs.Terms.{Begins, ClickLine, EventId, Expired, IsJoin, IsJoiner, M, Mem, OneChosen, PairRec, ServerLive, Setting, first}
 use Rattle.log_records.specs.declared.records.QueryRec.{QueryRec as Query}
-use Rattle.log_records.specs.Lines.{ClickLine}
-use Rattle.log_records.specs.Log.{first}
-use Rattle.log_records.specs.declared.report.ReportLine.TheVariants.{M}
-use Rattle.registry_state.specs.LookBack.{Expired}
-use Rattle.turn_defs.specs.declared.pair.PairRec.{PairRec}
-use Rattle.paxos_defs.specs.Agreement.{OneChosen}
-use Rattle.turn_defs.specs.Setting.{Setting, IsJoiner, IsJoin}
-use Rattle.turn_defs.specs.Server.{ServerLive}
 use Rattle.photon_model.specs.Journals.{journals}
 use Rattle.photon_model.specs.Sound.{values_of, IsWritten, IsMissing, IsDrained, known_of}
 use Rattle.photon_model.specs.Facts.{known}

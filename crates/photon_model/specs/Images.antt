@@ -1,13 +1,6 @@
 -- While turns are open each disk may hold its node's records, or those and the open turn's note.
 use Rattle.std.specs.Prelude.{◌≡◌, List, ◌++◌, Bool, ◌&&◌, is_some, if◌then◌else◌, None}
-use Rattle.turn_defs.specs.Setting.{Setting}
-use Rattle.turn_defs.specs.Turns.{Note, Out, land}
-use Rattle.turn_defs.specs.declared.node.Node.{Node}
-use Rattle.turn_defs.specs.declared.node.Node.TheVariants.{Dispatcher, Server, Replica, Joiner}
-use Rattle.turn_defs.specs.Dispatcher.{land_dispatcher}
-use Rattle.turn_defs.specs.Joiner.{land_joiner}
-use Rattle.turn_defs.specs.Server.{land_server}
-use Rattle.turn_defs.specs.Replica.{land_replica}
+use Rattle.photon_model.specs.Terms.{Dispatcher, Joiner, Node, Note, Out, Replica, Server, Setting, land, land_dispatcher, land_joiner, land_replica, land_server}
 use Rattle.photon_model.specs.Sound.{SoundStore}
 use Rattle.photon_model.specs.Runs.{Cell, World, Entry, Disks, disks, dispatcher_row, server_row, replica_row, joiner_row, world_after, IsRun, opening}
 

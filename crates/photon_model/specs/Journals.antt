@@ -1,10 +1,8 @@
 -- The replicas' journals, and what is decided by them.
 use Rattle.std.specs.Prelude.{ℕ, suc, List, [], ◌∷◌}
 use Rattle.paxos_defs.specs.Decided as paxos
-use Rattle.registry_state.specs.declared.Batch.{Batch}
+use Rattle.photon_model.specs.Terms.{BallotNote, Batch, ReplicaKept}
 use Rattle.registry_state.specs.Same.{same_batch}
-use Rattle.turn_defs.specs.Turns.{BallotNote}
-use Rattle.turn_defs.specs.Replica.{ReplicaKept}
 
 -- the values of a function at so many numbers from this one on
 abbrev pub values_from : {A : Type 0} → (ℕ → A) → ℕ → ℕ → List A

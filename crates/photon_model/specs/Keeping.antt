@@ -1,26 +1,8 @@
 -- What one row of the turn table keeps, node kind by node kind.
 use Rattle.std.specs.Prelude.{◌≡◌, ◌≢◌, ◌⊎◌, ℕ, ◌<◌, ◌≤◌, List, [], ◌++◌, Option, Some, None, true, length, slice_get}
-use Rattle.registry_state.specs.declared.Insert.{Insert}
-use Rattle.registry_state.specs.declared.Token.{Token}
-use Rattle.ballot_core.specs.declared.Ballot.{Ballot}
-use Rattle.registry_state.specs.LookBack.{IsGranted, Expired}
-use Rattle.list_words.specs.Lists.{Mem, Each, Begins, set_at}
-use Rattle.turn_defs.specs.Setting.{Setting, Checked, IsJoiner, IsJoinable}
-use Rattle.turn_defs.specs.declared.packet.Packet.{Packet}
+use Rattle.photon_model.specs.Terms.{Ballot, Batch, Begins, Checked, Deliver, DispatcherKept, DispatcherLive, Each, Expired, Flight, Input, Insert, IsGranted, IsJoinable, IsJoiner, JoinerKept, JoinerLive, Mem, Out, Packet, PairRec, Place, Proposal, Replica, ReplicaKept, ServerKept, ServerLive, Setting, Token, dispatcher_start, dispatcher_turn, insert_of, is_current, joiner_start, joiner_turn, land, land_dispatcher, land_joiner, land_replica, on_accepted, replica_turn, server_turn, set_at}
 use Rattle.turn_defs.specs.declared.packet.Packet.TheVariants.{Accepted}
-use Rattle.turn_defs.specs.declared.node.Node.TheVariants.{Replica}
 use Rattle.turn_defs.specs.declared.node.To.{To}
-use Rattle.turn_defs.specs.declared.node.Input.{Input}
-use Rattle.turn_defs.specs.declared.node.Input.TheVariants.{Deliver}
-use Rattle.turn_defs.specs.declared.pair.PairRec.{PairRec}
-use Rattle.paxos_defs.specs.declared.Place.{Place}
-use Rattle.paxos_defs.specs.Attempts.{on_accepted}
-use Rattle.registry_state.specs.declared.Batch.{Batch}
-use Rattle.turn_defs.specs.Turns.{Out, land}
-use Rattle.turn_defs.specs.Dispatcher.{DispatcherKept, DispatcherLive, land_dispatcher, dispatcher_turn, dispatcher_start}
-use Rattle.turn_defs.specs.Joiner.{JoinerKept, JoinerLive, Flight, insert_of, land_joiner, joiner_turn, joiner_start}
-use Rattle.turn_defs.specs.Server.{ServerKept, ServerLive, Proposal, server_turn, is_current}
-use Rattle.turn_defs.specs.Replica.{ReplicaKept, land_replica, replica_turn}
 use Rattle.photon_model.specs.Sound.{Known, values_of, IsWritten, DispatcherSound, JoinerSound, DrawnSound, InsertsOf}
 use Rattle.photon_model.specs.Runs.{World, Entry, after}
 use Rattle.photon_model.specs.EveryRun.{decided_in}

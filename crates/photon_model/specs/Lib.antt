@@ -1,3 +1,4 @@
+pub mod Terms
 pub mod Keeping
 pub mod Voting
 pub mod EveryRun

@@ -1,7 +1,6 @@
 -- The state of one node after a history, from its own entries alone.
 use Rattle.std.specs.Prelude.{◌≡◌, List, [], ◌∷◌, if◌then◌else◌}
-use Rattle.turn_defs.specs.Setting.{Setting}
-use Rattle.turn_defs.specs.declared.node.Node.{Node}
+use Rattle.photon_model.specs.Terms.{Node, Setting}
 use Rattle.photon_model.specs.Runs.{Cell, World, Entry, Begin, End, Stop, begun, ended, stopped, world_after, KeptOf, LiveOf, at_node, land_at, row_of}
 use Rattle.photon_model.specs.Rest.{same_node}
 

@@ -1,13 +1,7 @@
 -- A history taken apart: what each node does by itself, what is delivered, and who takes part. Where each node's own entries
 -- are turns of its own state, what is delivered was sent, and all are nodes of the setting, it is a run.
 use Rattle.std.specs.Prelude.{◌≡◌, ℕ, ◌≤◌, List, [], ◌∷◌, ◌++◌, length, Option, None, ⊤}
-use Rattle.turn_defs.specs.Setting.{Setting}
-use Rattle.turn_defs.specs.Nodes.{IsNode}
-use Rattle.turn_defs.specs.Turns.{Note, Out}
-use Rattle.turn_defs.specs.declared.packet.Packet.{Packet}
-use Rattle.turn_defs.specs.declared.node.Node.{Node}
-use Rattle.turn_defs.specs.declared.node.Input.{Input}
-use Rattle.turn_defs.specs.Sent.{Sent}
+use Rattle.photon_model.specs.Terms.{Input, IsNode, Node, Note, Out, Packet, Sent, Setting}
 use Rattle.photon_model.specs.Runs.{Cell, World, Entry, Begin, End, Stop, sends, Fits, WasSent, IsTurn, MayStop, IsRun, KeptOf, LiveOf, at_node, row_of}
 use Rattle.photon_model.specs.Local.{own_entry}
 

@@ -1,16 +1,9 @@
 -- The class of a click id, and the report.
 use Rattle.std.specs.Prelude.{ℕ, suc, ◌*◌, nat_lt, is_some, List, [], ◌++◌, map, find, if◌then◌else◌, Option, Some, None}
-use Rattle.event_id.specs.declared.id.EventId.{EventId}
+use Rattle.photon_model.specs.Terms.{Batch, ClickLine, EventId, J, M, PairRec, Setting, U, X, bound_of, distinct, first_joiner, holder, shard}
 use Rattle.event_id.specs.EventId.{is_same as same_id}
-use Rattle.registry_state.specs.declared.Batch.{Batch}
-use Rattle.registry_state.specs.LookBack.{holder, bound_of}
 use Rattle.log_records.specs.declared.records.ClickRec.{ClickRec as Click}
-use Rattle.log_records.specs.Lines.{ClickLine}
 use Rattle.log_records.specs.declared.report.ReportLine.{ReportLine}
-use Rattle.log_records.specs.declared.report.ReportLine.TheVariants.{J, M, X, U}
-use Rattle.log_records.specs.Report.{distinct}
-use Rattle.turn_defs.specs.declared.pair.PairRec.{PairRec}
-use Rattle.turn_defs.specs.Setting.{Setting, first_joiner, shard}
 use Rattle.photon_model.specs.Journals.{journals, decided}
 use Rattle.photon_model.specs.Runs.{Disks}
 

@@ -1,16 +1,6 @@
 -- Rest, quiet points, intervals and work turns of a history.
 use Rattle.std.specs.Prelude.{◌≡◌, ◌≢◌, ◌⊎◌, ℕ, ◌<◌, Bool, true, false, not, ◌==◌, List, [], ◌∷◌, ◌++◌, length, filter, count_by, Option, Some, None, ⊤}
-use Rattle.list_words.specs.Lists.{Mem, has}
-use Rattle.turn_defs.specs.Setting.{Setting, IsJoiner}
-use Rattle.turn_defs.specs.declared.node.Node.{Node}
-use Rattle.turn_defs.specs.declared.node.Node.TheVariants.{Dispatcher, Server, Replica, Joiner}
-use Rattle.turn_defs.specs.declared.node.Input.TheVariants.{Tick, Deliver}
-use Rattle.turn_defs.specs.Sent.{Sent}
-use Rattle.turn_defs.specs.Turns.{Note, Advance}
-use Rattle.turn_defs.specs.Dispatcher.{DispatcherLive, waits, dispatcher_wants, dispatcher_unfinished, dispatcher_at_rest}
-use Rattle.turn_defs.specs.Joiner.{JoinerLive, Flight, joiner_unfinished, joiner_at_rest}
-use Rattle.turn_defs.specs.Server.{ServerLive, server_wants, server_unfinished, server_at_rest}
-use Rattle.turn_defs.specs.Nodes.{IsNode}
+use Rattle.photon_model.specs.Terms.{Advance, Deliver, Dispatcher, DispatcherLive, Flight, IsJoiner, IsNode, Joiner, JoinerLive, Mem, Node, Note, Replica, Sent, Server, ServerLive, Setting, Tick, dispatcher_at_rest, dispatcher_unfinished, dispatcher_wants, has, joiner_at_rest, joiner_unfinished, server_at_rest, server_unfinished, server_wants, waits}
 use Rattle.photon_model.specs.Runs.{World, Entry, Begin, End, Stop, sends, after, world_after}
 
 -- whether two nodes are one

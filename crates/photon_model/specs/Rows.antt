@@ -1,12 +1,6 @@
 -- Worked rows: what a store shows of a click, what is decided.
 use Rattle.std.specs.Prelude.{◌≡◌, ℕ, List, [], ◌∷◌, ◌==◌, nat_lt, if◌then◌else◌}
-use Rattle.registry_state.specs.declared.Batch.{Batch}
-use Rattle.log_records.specs.Rows.{one_query, one_click}
-use Rattle.log_records.specs.declared.report.ReportLine.TheVariants.{J, M, X, U}
-use Rattle.turn_defs.specs.declared.pair.PairRec.{PairRec}
-use Rattle.paxos_defs.specs.Notes.Note.{Accepted}
-use Rattle.turn_defs.specs.Rows.{worked, token, one_batch}
-use Rattle.turn_defs.specs.Replica.{ReplicaKept}
+use Rattle.photon_model.specs.Terms.{Accepted, Batch, J, M, PairRec, ReplicaKept, U, X, one_batch, one_click, one_query, token, worked}
 use Rattle.photon_model.specs.Report.{line_of}
 use Rattle.photon_model.specs.Journals.{journals, decided}
 use Rattle.photon_model.specs.Runs.{Disks}

@@ -1,19 +1,6 @@
 -- Histories: what each node's state is after one, and which are runs.
 use Rattle.std.specs.Prelude.{◌≡◌, ◌⊎◌, ℕ, ◌≤◌, List, [], ◌∷◌, ◌++◌, length, map, Option, Some, None, ⊤}
-use Rattle.list_words.specs.Lists.{Mem, set_at}
-use Rattle.turn_defs.specs.Setting.{Setting}
-use Rattle.turn_defs.specs.Nodes.{IsNode, Addressed}
-use Rattle.turn_defs.specs.declared.packet.Packet.{Packet}
-use Rattle.turn_defs.specs.declared.node.Node.{Node}
-use Rattle.turn_defs.specs.declared.node.Node.TheVariants.{Dispatcher, Server, Replica, Joiner}
-use Rattle.turn_defs.specs.Sent.{Sent}
-use Rattle.turn_defs.specs.declared.node.Input.{Input}
-use Rattle.turn_defs.specs.declared.node.Input.TheVariants.{Start, Own, Tick, Deliver}
-use Rattle.turn_defs.specs.Turns.{Note, Out, land}
-use Rattle.turn_defs.specs.Dispatcher.{DispatcherKept, DispatcherLive, land_dispatcher, dispatcher_start, dispatcher_turn}
-use Rattle.turn_defs.specs.Joiner.{JoinerKept, JoinerLive, land_joiner, joiner_start, joiner_turn}
-use Rattle.turn_defs.specs.Server.{ServerKept, ServerLive, land_server, server_start, server_turn}
-use Rattle.turn_defs.specs.Replica.{ReplicaKept, land_replica, replica_start, replica_turn}
+use Rattle.photon_model.specs.Terms.{Addressed, Deliver, Dispatcher, DispatcherKept, DispatcherLive, Input, IsNode, Joiner, JoinerKept, JoinerLive, Mem, Node, Note, Out, Own, Packet, Replica, ReplicaKept, Sent, Server, ServerKept, ServerLive, Setting, Start, Tick, dispatcher_start, dispatcher_turn, joiner_start, joiner_turn, land, land_dispatcher, land_joiner, land_replica, land_server, replica_start, replica_turn, server_start, server_turn, set_at}
 
 -- A node: what its disks hold, its volatile state while it is up, the input of its open turn.
 pub record Cell (K L : Type 0) : Type 0 where

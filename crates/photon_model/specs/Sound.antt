@@ -1,18 +1,6 @@
 -- What the records of all disks say of an id, and which records are sound.
 use Rattle.std.specs.Prelude.{◌≡◌, ◌≢◌, ◌⊎◌, ℕ, ◌<◌, ◌≤◌, true, List, [], ◌∷◌, Some, None, ⊤, ◌++◌}
-use Rattle.event_id.specs.declared.id.EventId.{EventId}
-use Rattle.registry_state.specs.declared.Insert.{Insert}
-use Rattle.registry_state.specs.declared.Batch.{Batch}
-use Rattle.log_records.specs.Lines.{ClickLine, at, end_from, IsBoundary}
-use Rattle.log_records.specs.Log.{first}
-use Rattle.registry_state.specs.LookBack.{IsGranted, Registered, Expired}
-use Rattle.list_words.specs.Lists.{Mem, Each, EachPair, Distinct, has}
-use Rattle.turn_defs.specs.Setting.{Setting, IsJoiner, IsJoin, IsJoinable, shard}
-use Rattle.turn_defs.specs.declared.pair.PairRec.{PairRec}
-use Rattle.turn_defs.specs.Turns.{BallotNote}
-use Rattle.paxos_defs.specs.Notes.Note.{Promised, Accepted}
-use Rattle.turn_defs.specs.Dispatcher.{DispatcherKept}
-use Rattle.turn_defs.specs.Joiner.{JoinerKept}
+use Rattle.photon_model.specs.Terms.{Accepted, BallotNote, Batch, ClickLine, DispatcherKept, Distinct, Each, EachPair, EventId, Expired, Insert, IsBoundary, IsGranted, IsJoin, IsJoinable, IsJoiner, JoinerKept, Mem, PairRec, Promised, Registered, Setting, at, end_from, first, has, shard}
 use Rattle.photon_model.specs.Journals.{journals, decided}
 use Rattle.photon_model.specs.Agreement.{ReplicasSound}
 use Rattle.photon_model.specs.Runs.{Disks}

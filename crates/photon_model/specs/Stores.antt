@@ -1,13 +1,6 @@
 -- Laws on stores: the empty one, runs, longer logs, records that stay, and the topology.
 use Rattle.std.specs.Prelude.{◌≡◌, ℕ, Bool, true, false, List, [], ◌++◌, Some, None}
-use Rattle.registry_state.specs.declared.Insert.{Insert}
-use Rattle.list_words.specs.Lists.{Begins}
-use Rattle.log_records.specs.declared.records.QueryRec.{QueryRec}
-use Rattle.log_records.specs.declared.records.ClickRec.{ClickRec}
-use Rattle.log_records.specs.Log.{HoldsQueries, HoldsClicks}
-use Rattle.log_records.specs.Lines.{placed}
-use Rattle.turn_defs.specs.declared.node.Node.{Node}
-use Rattle.turn_defs.specs.Setting.{Setting, Checked, IsOver}
+use Rattle.photon_model.specs.Terms.{Begins, Checked, ClickRec, HoldsClicks, HoldsQueries, Insert, IsOver, Node, QueryRec, Setting, placed}
 use Rattle.photon_model.specs.Sound.{Sound, SoundStore}
 use Rattle.photon_model.specs.Topology.{Store, WholeSound, topology_of}
 use Rattle.photon_model.specs.Runs.{World, Entry, Disks, disks, world_after, IsRun, opening}

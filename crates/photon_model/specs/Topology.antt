@@ -1,7 +1,6 @@
 -- The topology that a store is kept with, and a whole store with it.
 use Rattle.std.specs.Prelude.{◌≡◌, ℕ, ◌<◌, Bool, true, false, List, [], Option, Some}
-use Rattle.time_shards.specs.declared.ShardRow.{ShardRow}
-use Rattle.turn_defs.specs.Setting.{Setting, IsJoiner}
+use Rattle.photon_model.specs.Terms.{IsJoiner, Setting, ShardRow}
 use Rattle.photon_model.specs.Runs.{Disks}
 use Rattle.photon_model.specs.Sound.{SoundStore}
 

@@ -1,11 +1,7 @@
 -- Verification's words and the report's: of the records of one store both say the same of each id.
 use Rattle.std.specs.Prelude.{◌≡◌, ◌↔◌, ◌*◌, true, [], map, IsSome}
-use Rattle.event_id.specs.declared.id.EventId.{EventId}
+use Rattle.photon_model.specs.Terms.{ClickLine, EventId, JournalsAgree, Setting, distinct, first_joiner}
 use Rattle.log_records.specs.declared.records.ClickRec.{ClickRec as Click}
-use Rattle.log_records.specs.Lines.{ClickLine}
-use Rattle.log_records.specs.Report.{distinct}
-use Rattle.paxos_defs.specs.Agreement.{JournalsAgree}
-use Rattle.turn_defs.specs.Setting.{Setting, first_joiner}
 use Rattle.photon_model.specs.Journals.{journals, values_from}
 use Rattle.photon_model.specs.Report as report
 use Rattle.photon_model.specs.Runs.{Disks}

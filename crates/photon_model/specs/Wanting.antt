@@ -1,12 +1,6 @@
 -- A node that wants nothing does nothing by itself.
 use Rattle.std.specs.Prelude.{◌≡◌, ℕ, false}
-use Rattle.turn_defs.specs.Setting.{Setting}
-use Rattle.turn_defs.specs.Turns.{idle}
-use Rattle.turn_defs.specs.declared.node.Input.TheVariants.{Own}
-use Rattle.turn_defs.specs.Dispatcher.{DispatcherKept, DispatcherLive, dispatcher_turn, dispatcher_wants}
-use Rattle.turn_defs.specs.Joiner.{JoinerKept, JoinerLive, joiner_turn}
-use Rattle.turn_defs.specs.Server.{ServerKept, ServerLive, server_turn, server_wants}
-use Rattle.turn_defs.specs.Replica.{ReplicaKept, replica_turn}
+use Rattle.photon_model.specs.Terms.{DispatcherKept, DispatcherLive, JoinerKept, JoinerLive, Own, ReplicaKept, ServerKept, ServerLive, Setting, dispatcher_turn, dispatcher_wants, idle, joiner_turn, replica_turn, server_turn, server_wants}
 
 pub record OwnIsWanted : Type 0 where
   pub dispatcher : (g : Setting) (site : ℕ) (k : DispatcherKept) (l : DispatcherLive) → dispatcher_wants l ≡ false → dispatcher_turn g site k l Own ≡ idle l

@@ -7,7 +7,7 @@ pub mod laws;
 
 ghost use Rattle.photon_model.specs.EveryRun.{AfterEveryRun, AllFactsHold, RestIsDone};
 ghost use Rattle.photon_model.specs.Headline.{DecidesOnce, ForgetsNothing, HasOwnQueries, IsOutputOnce, LearnsTheDecided, LosesNoPair, TellsTheMissing};
-ghost use Rattle.turn_defs.specs.Setting.{Setting};
+ghost use Rattle.photon_model.specs.Terms.{Setting};
 ghost use Rattle.photon_model.specs.Topology.{WholeSound};
 ghost use Rattle.photon_model.specs.Stores.{LongerKeepsStores, LongerKeepsWhole, ReadIsChecked, ReadIsOver, RecordsStay, RunsKeepStores, RunsKeepWhole, SoundCloses, TopologyComesFirst, empty_store};
 ghost use Rattle.photon_model.specs.Adding.{MovesUnsettled, RowKeepsReport, RowKeepsStores, RowKeepsWhole};

@@ -1,9 +1,6 @@
 -- What becomes of an attempt in a server's turn that takes an answer to it, or a Tick.
-use Rattle.std.proofs.Common.{◌≡◌, ◌⊎◌, inl, inr, ⊎_elim, ℕ, zero, suc, ◌+◌, ◌<◌, ◌≤◌, Bool, true, cond, ◌==◌, List, length, Some, None, refl, sym, ap, ◌∙◌, subst, arith}
-use Rattle.std.specs.Prelude.{Option}
-use Rattle.std.proofs.lemmas.Bool.{cond-true, eq-eqb, lt-ltb, and_from}
-use Rattle.photon_model.proofs.Words.{Ballot, Batch, Place, Phase, on_promise, on_accepted, Promising, Accepting, Ended, Mem, set_at, none_some, some_same, mem_left, mem_right, Setting, shards, Out, idle, Packet, Nack, Replica, To, Only, Own, Tick, Deliver, ServerKept, ServerLive, ShardState, Proposal, is_current, promised, accepted, of_phase, again, all_again, gets_promise, gets_accepted, gets_nack, server_turn}
-use Rattle.progress_laws.specs.Moves.{next_of}
+use Rattle.std.proofs.Common.{◌≡◌, ◌⊎◌, inl, inr, ⊎_elim, ℕ, zero, suc, ◌+◌, ◌<◌, ◌≤◌, Bool, true, cond, ◌==◌, List, length, Some, None, refl, sym, ap, ◌∙◌, subst, arith, Option}
+use Rattle.progress_laws.proofs.Words.{cond-true, eq-eqb, lt-ltb, and_from, Ballot, Batch, Place, Phase, on_promise, on_accepted, Promising, Accepting, Ended, Mem, set_at, none_some, some_same, mem_left, mem_right, Setting, shards, Out, idle, Packet, Nack, Replica, To, Only, Own, Tick, Deliver, ServerKept, ServerLive, ShardState, Proposal, is_current, promised, accepted, of_phase, again, all_again, gets_promise, gets_accepted, gets_nack, server_turn, next_of}
 use Rattle.progress_laws.proofs.Phases.{IsOpen, IsAnswer, HasMark, question, PhaseGoes, promises_no_more, marked_now, was_marked, same_self, promise_goes, promise_open, mem_to}
 use Rattle.progress_laws.proofs.Turning.{AsksAll, IsKept, promised_turns}
 

@@ -1,11 +1,6 @@
 -- In an interval in which nothing is done each join in flight goes on, so that at the end its server has something to do.
-use Rattle.std.proofs.Common.{◌≡◌, inl, inr, ⊎_elim, ℕ, ◌+◌, ◌*◌, ◌<◌, Bool, true, nat_lt, List, ◌∷◌, Some, refl, sym, ap, ◌∙◌, subst, lit<, [], arith}
-use Rattle.std.specs.Prelude.{Option, ◌⊎◌}
-use Rattle.std.proofs.lemmas.Bool.{cond_both, and_from, le-leb, lt-ltb, eq-eqb}
-use Rattle.time_shards.specs.Shards.{IsTable}
-use Rattle.photon_model.proofs.Worlds.{up_is}
-use Rattle.photon_model.proofs.Words.{Answer, Mem, some_same, Setting, IsJoiner, first_joiner, site_of_joiner, shard, Out, shard_below, Claim, Reply, Node, Server, Joiner, Only, Tick, Deliver, Sent, JoinerLive, Flight, insert_of, joiner_unfinished, ServerLive, is_own_joiner, World, Entry, server_row, joiner_row, after, world_after, JoinerWorks, if_up}
-use Rattle.progress_laws.specs.Idle.{IsIdle}
+use Rattle.std.proofs.Common.{◌≡◌, inl, inr, ⊎_elim, ℕ, ◌+◌, ◌*◌, ◌<◌, Bool, true, nat_lt, List, ◌∷◌, Some, refl, sym, ap, ◌∙◌, subst, lit<, [], arith, Option, ◌⊎◌}
+use Rattle.progress_laws.proofs.Words.{cond_both, and_from, le-leb, lt-ltb, eq-eqb, IsTable, up_is, Answer, Mem, some_same, Setting, IsJoiner, first_joiner, site_of_joiner, shard, Out, shard_below, Claim, Reply, Node, Server, Joiner, Only, Tick, Deliver, Sent, JoinerLive, Flight, insert_of, joiner_unfinished, ServerLive, is_own_joiner, World, Entry, server_row, joiner_row, after, world_after, JoinerWorks, if_up, IsIdle}
 use Rattle.progress_laws.proofs.Moments.{opened_at, IsEnd, Step, along_idle, Pending, comes, SitesUp, turned, ended_own, lives, sites_up, by_row, by_turn, no_work, goes, row_sent_to}
 use Rattle.progress_laws.proofs.Waiting.{some_empty, IsLeftAt, Heard, insert_heard, waits_left, left_stays}
 use Rattle.progress_laws.proofs.Flying.{turn_both, Sends, tick_sends, reply_works}

@@ -1,20 +1,13 @@
 -- An idle interval that begins with work left ends with a server held, by a promise that is older than the interval.
-use Rattle.std.proofs.Common.{◌≡◌, ◌⊎◌, inl, inr, ⊎_elim, ℕ, zero, suc, ◌+◌, ◌*◌, ◌<◌, ◌≤◌, Bool, true, false, not, ◌||◌, List, [], length, Some, None, refl, sym, ap, ◌∙◌, subst, arith}
-use Rattle.std.specs.Prelude.{Option}
-use Rattle.std.proofs.lemmas.Bool.{true≢false, cases_Bool, cases_lt, or_left, or_right}
-use Rattle.photon_model.proofs.Words.{Ballot, IsUpTo, Majority, upto_trans, not_above, Batch, Place, none_some, some_same, Setting, IsJoiner, first_joiner, shards, site_of_joiner, IsNode, Node, Dispatcher, Server, Replica, Joiner, Tick, Deliver, DispatcherLive, dispatcher_at_rest, JoinerLive, joiner_at_rest, ServerLive, ShardState, is_free, server_at_rest, AllFactsHold, World, Entry, Disks, world_after, opening, UpWith, IsAtRest, IsQuiet, Insert, each_at, known, IfUp, FlightHolds, JoinerHolds, WorldHolds}
-use Rattle.time_shards.specs.Shards.{IsTable}
-use Rattle.progress_laws.specs.Idle.{IsIdle}
-use Rattle.progress_laws.specs.Moves.{is_left, next_of, promise_at, IsHeldAt, IsRefusedFrom, RestOrRefused, LeftIsRefused, HeldIsRefused}
+use Rattle.std.proofs.Common.{◌≡◌, ◌⊎◌, inl, inr, ⊎_elim, ℕ, zero, suc, ◌+◌, ◌*◌, ◌<◌, ◌≤◌, Bool, true, false, not, ◌||◌, List, [], length, Some, None, refl, sym, ap, ◌∙◌, subst, arith, Option}
+use Rattle.progress_laws.proofs.Words.{true≢false, cases_Bool, cases_lt, or_left, or_right, Ballot, IsUpTo, Majority, upto_trans, not_above, Batch, Place, none_some, some_same, Setting, IsJoiner, first_joiner, shards, site_of_joiner, IsNode, Node, Dispatcher, Server, Replica, Joiner, Tick, Deliver, DispatcherLive, dispatcher_at_rest, JoinerLive, joiner_at_rest, ServerLive, ShardState, is_free, server_at_rest, AllFactsHold, World, Entry, Disks, world_after, opening, UpWith, IsAtRest, IsQuiet, Insert, each_at, known, IfUp, FlightHolds, JoinerHolds, WorldHolds, IsTable, IsIdle, is_left, next_of, promise_at, IsHeldAt, IsRefusedFrom, up_is}
 use Rattle.progress_laws.proofs.Moments.{opened_at, along_idle, Pending, quiet_closed, comes, SitesUp}
 use Rattle.progress_laws.proofs.Turning.{ballot_in, Same}
 use Rattle.progress_laws.proofs.Waiting.{IsLeftAt, still_left, server_waits}
-use Rattle.progress_laws.proofs.Lasting.{OfAllShards, HasCause, no_cause, cause_kept, after_run}
+use Rattle.progress_laws.proofs.Lasting.{OfAllShards, HasCause, cause_kept, after_run}
 use Rattle.progress_laws.proofs.Claims.{HasOwnTokens, site_below}
-use Rattle.photon_model.proofs.Worlds.{up_is}
 use Rattle.progress_laws.proofs.Trying.{HasLines}
 use Rattle.progress_laws.proofs.Stalling.{Stalls, stalls}
-use Rattle.progress_laws.proofs.Phases.{AreOpen}
 use Rattle.progress_laws.proofs.Refusing.{unfinished_at, no_attempt, every_attempt_open}
 use Rattle.progress_laws.proofs.Greatest.{UpTo, Promised, IsMade, MoreOfBoth, with_both}
 use Rattle.progress_laws.proofs.Dueling.{Duel, IsTrying, duel_goes_on, below_round, upto_round, raised}
@@ -39,12 +32,26 @@ all_closed g dead w q (Server s) is = quiet_closed g dead w q (Server s) is refl
 all_closed g dead w q (Joiner j) is = quiet_closed g dead w q (Joiner j) is refl
 all_closed g dead w q (Replica r) is = ⊎_elim (λ out. q.silent r is out) (λ live. quiet_closed g dead w q (Replica r) is live) (cases_Bool (dead r))
 
-module _ (g : Setting) (dead : ℕ → Bool) (table : IsTable g.config.table) (most : Majority g.config.replicas (λ r. dead r ≡ false)) (w : World) (es : List Entry) (i : IsIdle g dead w es) (open_ : AreOpen g w) (causes : OfAllShards (HasCause g) w) (own : HasOwnTokens g w) (lines : HasLines g w) where
+-- what stands of flights and lines after every run
+module _ (g : Setting) (w : World) (drawn : List Insert) (h : WorldHolds g w drawn) where
+  own_tokens : HasOwnTokens g w
+  own_tokens j is l up f m = let live = subst (IfUp (JoinerHolds g (known g w drawn) j (w.joiners j).kept)) up (h.joiners j is).live in (each_at (FlightHolds g (known g w drawn) j (w.joiners j).kept.epoch l.number) l.flight live.flights f m).joiner
+
+  lines : HasLines g w
+  lines s lt l up p t = grind arith
+
+module _ (g : Setting) (d : Disks) (run : List Entry) (facts : AllFactsHold g (world_after g (opening d) run)) (dead : ℕ → Bool) (es : List Entry) (table : IsTable g.config.table) (most : Majority g.config.replicas (λ r. dead r ≡ false)) (i : IsIdle g dead (world_after g (opening d) run) es) where
+  abbrev w : World
+  w = world_after g (opening d) run
+
   abbrev v : World
   v = world_after g w es
 
   all : Stalls g dead w es
-  all = stalls g dead table w es i own lines
+  all = stalls g dead table w es i (own_tokens g w facts.0 facts.2) (lines g w facts.0 facts.2)
+
+  causes : OfAllShards (HasCause g) w
+  causes = after_run g (HasCause g) (λ b e. none_some b e) (cause_kept g) d run
 
   servers_up : SitesUp w
   servers_up s lt = let u = up_is _ (w.servers s).live (i.interval.starts.servers s lt).1 in (u.0, u.1)
@@ -87,7 +94,7 @@ module _ (g : Setting) (dead : ℕ → Bool) (table : IsTable g.config.table) (m
         ends = along_idle g dead (Duel g dead w at site low) (λ w' air next e es step h. duel_goes_on g dead w at site low step h lt) es w i (begins start)
 
         none_stands : (s : ℕ) → s < 2 → (m : ServerLive) → (v.servers s).live ≡ Some m → (m.shards at.shard).proposal ≡ None
-        none_stands s slt m now = no_attempt g dead w es most i open_ s slt m now at.shard below
+        none_stands s slt m now = no_attempt g dead w es most i (every_attempt_open g d run) s slt m now at.shard below
 
         held_back : (s : ℕ) → s < 2 → (m : ServerLive) → (v.servers s).live ≡ Some m → is_left g (m.shards at.shard) ≡ true → (m.shards at.shard).held ≡ true
         held_back s slt m now more =
@@ -195,25 +202,3 @@ module _ (g : Setting) (dead : ℕ → Bool) (table : IsTable g.config.table) (m
       (λ q. inr q)
       (every (λ s. UpWith (λ (l : DispatcherLive). dispatcher_at_rest l ≡ true) (w.dispatchers s).live) SomeRefused 2
       (λ s lt. ⊎_elim (λ t. inl t) (λ f. inr (some_refused s lt (all.dispatchers s lt f))) (tested _ dispatcher_at_rest (w.dispatchers s).live (i.interval.starts.dispatchers s lt).1)))
-
--- ---- after every run
-
-module _ (g : Setting) (w : World) (drawn : List Insert) (h : WorldHolds g w drawn) where
-  own_tokens : HasOwnTokens g w
-  own_tokens j is l up f m = let live = subst (IfUp (JoinerHolds g (known g w drawn) j (w.joiners j).kept)) up (h.joiners j is).live in (each_at (FlightHolds g (known g w drawn) j (w.joiners j).kept.epoch l.number) l.flight live.flights f m).joiner
-
-  lines : HasLines g w
-  lines s lt l up p t = grind arith
-
-module _ (g : Setting) (d : Disks) (es : List Entry) (facts : AllFactsHold g (world_after g (opening d) es)) where
-  causes_after : OfAllShards (HasCause g) (world_after g (opening d) es)
-  causes_after = after_run g (HasCause g) (no_cause g) (cause_kept g) d es
-
-  pub first_law : RestOrRefused g (world_after g (opening d) es)
-  first_law dead more table most idle = rests_or_refused g dead table most _ more idle (every_attempt_open g d es) causes_after (own_tokens g _ facts.0 facts.2) (lines g _ facts.0 facts.2)
-
-  pub each_law : LeftIsRefused g (world_after g (opening d) es)
-  each_law dead more table most idle s lt l up k below left = left_refused g dead table most _ more idle (every_attempt_open g d es) causes_after (own_tokens g _ facts.0 facts.2) (lines g _ facts.0 facts.2) s lt l up k below left
-
-  pub second_law : HeldIsRefused g (world_after g (opening d) es)
-  second_law dead more table most idle s n at held = held_again g dead table most _ more idle (every_attempt_open g d es) causes_after (own_tokens g _ facts.0 facts.2) (lines g _ facts.0 facts.2) s n at held

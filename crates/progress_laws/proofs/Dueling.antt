@@ -1,13 +1,10 @@
 -- Each entry of an idle interval keeps what is known of the greatest attempt at a place.
-use Rattle.std.proofs.Common.{◌≡◌, ◌⊎◌, inl, inr, ⊎_elim, ℕ, suc, ◌<◌, ◌≤◌, Bool, false, List, ◌∷◌, length, Some, None, refl, sym, ap, ◌∙◌, subst, arith}
-use Rattle.std.specs.Prelude.{Option}
-use Rattle.photon_model.proofs.Words.{Ballot, IsBelow, IsUpTo, not_above, Batch, Place, Each, none_some, some_same, Setting, IsNode, Sent, Out, land, Packet, Prepare, Accept, Nack, Node, Dispatcher, Server, Replica, Joiner, To, Input, Tick, Deliver, ServerLive, ReplicaKept, cell_at, land_replica, World, Entry, server_row, replica_row, after}
-use Rattle.photon_model.proofs.Agreeing.{IsPlain, dispatcher_row_plain, joiner_row_plain}
-use Rattle.progress_laws.specs.Moves.{next_of, promise_at}
+use Rattle.std.proofs.Common.{◌≡◌, ◌⊎◌, inl, inr, ⊎_elim, ℕ, suc, ◌<◌, ◌≤◌, Bool, false, List, ◌∷◌, length, Some, None, refl, sym, ap, ◌∙◌, subst, arith, Option}
+use Rattle.progress_laws.proofs.Words.{Ballot, IsBelow, IsUpTo, not_above, Batch, Place, Each, none_some, some_same, Setting, IsNode, Sent, Out, land, Packet, Prepare, Accept, Nack, Node, Dispatcher, Server, Replica, Joiner, To, Input, Tick, Deliver, ServerLive, ReplicaKept, cell_at, land_replica, World, Entry, server_row, replica_row, after, IsPlain, dispatcher_row_plain, joiner_row_plain, next_of, promise_at}
 use Rattle.progress_laws.proofs.Moments.{opened_at, IsEnd, Step, Pending, IsSent, SitesUp, turned, ended_own, lives, sites_up, ends, kept_after, by_row, goes, was_pending, each_of_row}
 use Rattle.progress_laws.proofs.Turning.{ballot_in, Same, Fate, Keeps, Asks}
 use Rattle.progress_laws.proofs.Waiting.{still_left, CalmTurn, calm_turn}
-use Rattle.progress_laws.proofs.Lasting.{OfAllShards, HasCause, no_cause, cause_kept, lasts}
+use Rattle.progress_laws.proofs.Lasting.{OfAllShards, HasCause, cause_kept, lasts}
 use Rattle.progress_laws.proofs.Rising.{AsksAt, Says, says, Rises, rises, after_turn}
 use Rattle.progress_laws.proofs.Greatest.{UpTo, Promised, promised_more, promised_is, Fine, fine_grows, plain_fine, asks_fine, IsRefusedBy, IsMade, AttemptUpTo, MoreOfBoth, with_both}
 
@@ -76,7 +73,7 @@ module _ (g : Setting) (dead : ℕ → Bool) (old : World) (at : Place) (site lo
                 inr (refused s lt u is r c (row_of s).live.round (t.opened ∙ ap Some (input ∙ ap (λ q. Deliver (Replica r) (Nack q b c)) place ∙ ap (λ x. Deliver (Replica r) (Nack at x c)) (some_same b u (sym was ∙ stands)))) le)
 
     new : MoreOfBoth g dead old at w' h.most
-    new = with_both g dead old at w' h.most (sites_up step h.up) (lasts g (HasCause g) (no_cause g) (cause_kept g) w e h.causes) made_after
+    new = with_both g dead old at w' h.most (sites_up step h.up) (lasts g (HasCause g) (λ b e. none_some b e) (cause_kept g) w e h.causes) made_after
 
     -- ---- promises
 
@@ -169,7 +166,7 @@ module _ (g : Setting) (dead : ℕ → Bool) (old : World) (at : Place) (site lo
         record {
           most = new.0;
           up = sites_up step h.up;
-          causes = lasts g (HasCause g) (no_cause g) (cause_kept g) w e h.causes;
+          causes = lasts g (HasCause g) (λ b e. none_some b e) (cause_kept g) w e h.causes;
           promises = λ r lt live. promised_grows (promise_at old r at) (promise_at w' r at) (promise_after r lt live);
           packets = λ x is u. ⊎_elim (λ k. fine_grows g dead old at h.most new.0 new.1 x.to x.packet (h.packets x is k)) (sent_fine x) (was_pending step x u);
           attempts = new.3;

@@ -1,13 +1,7 @@
 -- A joiner's turn: what is in flight after it was so before, or its insert is sent; and what ends a flight is work.
-use Rattle.std.proofs.Common.{◌≡◌, ◌⊎◌, inl, inr, ⊎_elim, ℕ, true, List, ◌∷◌, map, sym, ap, ◌∙◌, [], arith}
-use Rattle.std.specs.Prelude.{find}
-use Rattle.std.proofs.lemmas.Bool.{true≢false, and_from}
-use Rattle.photon_model.proofs.Finding.{find_none}
-use Rattle.photon_model.proofs.JoinerRows.{landed_or, landed_before, every_row}
-use Rattle.photon_model.proofs.Words.{Insert, same_id-refl, same_token-refl, Answer, Granted, Mem, option_both, mem_left, mem_split, Setting, site_of_joiner, Claim, Reply, Node, Server, Only, Input, Tick, Deliver, Out, idle, JoinerKept, JoinerLive, Flight, insert_of, is_for, landed, without_flight, answers, replied, joiner_turn, JoinerWorks}
-
-pub is_own : (f : Flight) → is_for (insert_of f) f ≡ true
-is_own f = and_from _ _ (same_id-refl f.click.id) (same_token-refl f.token)
+use Rattle.std.proofs.Common.{◌≡◌, ◌⊎◌, inl, inr, ⊎_elim, ℕ, List, ◌∷◌, map, sym, ap, ◌∙◌, [], arith, find}
+use Rattle.progress_laws.proofs.Words.{true≢false, and_from, find_none, landed_or, landed_before, Insert, same_id-refl, same_token-refl, Answer, Granted, Mem, option_both, mem_left, mem_split, Setting, site_of_joiner, Claim, Reply, Node, Server, Only, Input, Tick, Deliver, Out, idle, JoinerKept, JoinerLive, Flight, insert_of, is_for, landed, without_flight, answers, replied, joiner_turn, JoinerWorks}
+use Rattle.photon_model.proofs.JoinerRows.{every_row}
 
 mem_map : {A B : Type 0} (f : A → B) (xs : List A) (x : A) → Mem x xs → Mem (f x) (map f xs)
 mem_map f [] x m = absurd m
@@ -63,10 +57,10 @@ module _ (g : Setting) (j : ℕ) (k : JoinerKept) (l : JoinerLive) where
   reply_works f from a m =
       option_both (find (is_for (insert_of f)) l.flight) (replied g j k l (insert_of f) a) (λ o. JoinerWorks l o.live)
       (λ y _. ends y a)
-      (λ n. absurd (find_none (is_for (insert_of f)) l.flight f n m (is_own f)))
+      (λ n. absurd (find_none (is_for (insert_of f)) l.flight f n m (and_from _ _ (same_id-refl f.click.id) (same_token-refl f.token))))
     where
       gone : JoinerWorks l (without_flight g j k l (insert_of f))
-      gone = (f, m, λ q. true≢false (sym (is_own f) ∙ (landed_before l.flight (insert_of f) f q).1))
+      gone = (f, m, λ q. true≢false (sym (and_from _ _ (same_id-refl f.click.id) (same_token-refl f.token)) ∙ (landed_before l.flight (insert_of f) f q).1))
 
       ends : (y : Flight) (a : Answer) → JoinerWorks l (answers g j k l (insert_of f) y a).live
       ends y a = grind (arith, gone)

@@ -1,11 +1,7 @@
 -- The greatest attempt of an idle interval at a place: a replica refuses it by a promise that is older than the interval.
-use Rattle.std.proofs.Common.{◌≡◌, ◌⊎◌, inl, inr, ⊎_elim, ℕ, ◌<◌, ◌≤◌, Bool, true, false, ◌==◌, length, Some, None, refl, sym, ap, ◌∙◌, subst, lit<, arith}
-use Rattle.std.specs.Prelude.{Option}
-use Rattle.std.proofs.lemmas.Bool.{eqb-true, eq-eqb, true≢false}
-use Rattle.photon_model.proofs.Words.{Ballot, IsBelow, IsUpTo, compared, upto_trans, Place, none_some, some_same, Setting, Packet, Prepare, Accept, Nack, Node, ServerLive, ShardState, World, is_out}
-use Rattle.photon_model.proofs.Agreeing.{IsPlain}
+use Rattle.std.proofs.Common.{◌≡◌, ◌⊎◌, inl, inr, ⊎_elim, ℕ, ◌<◌, ◌≤◌, Bool, true, false, ◌==◌, length, Some, None, refl, sym, ap, ◌∙◌, subst, lit<, arith, Option, eqb-true, eq-eqb, true≢false}
+use Rattle.progress_laws.proofs.Words.{Ballot, IsBelow, IsUpTo, compared, upto_trans, Place, none_some, some_same, Setting, Packet, Prepare, Accept, Nack, Node, ServerLive, ShardState, World, is_out, IsPlain, is_left, next_of, promise_at}
 use Rattle.progress_laws.proofs.Moments.{SitesUp}
-use Rattle.progress_laws.specs.Moves.{is_left, next_of, promise_at}
 use Rattle.progress_laws.proofs.Turning.{ballot_in, Stands, Asks}
 use Rattle.progress_laws.proofs.Lasting.{OfShards, OfAllShards, HasCause}
 use Rattle.progress_laws.proofs.Rising.{IsPromiseUpTo}

@@ -1,9 +1,6 @@
 -- What each turn of a server keeps of its shards holds after every run.
-use Rattle.std.proofs.Common.{◌≡◌, inl, inr, ⊎_elim, ℕ, true, List, [], ◌∷◌, Some, sym, ap, ◌∙◌, subst, arith}
-use Rattle.std.specs.Prelude.{Option}
-use Rattle.photon_model.proofs.Words.{Ballot, none_some, Setting, Input, ServerKept, ServerLive, ShardState, empty_shard, server_start, server_turn, IfUp, World, Entry, Disks, server_row, after, world_after, opening, Out}
-use Rattle.photon_model.proofs.Worlds.{row_by}
-use Rattle.progress_laws.specs.Moves.{is_left}
+use Rattle.std.proofs.Common.{◌≡◌, inl, inr, ⊎_elim, ℕ, true, List, [], ◌∷◌, Some, sym, ap, ◌∙◌, subst, arith, Option}
+use Rattle.progress_laws.proofs.Words.{Ballot, none_some, Setting, Input, ServerKept, ServerLive, ShardState, empty_shard, server_start, server_turn, IfUp, World, Entry, Disks, server_row, after, world_after, opening, Out, row_by, is_left}
 use Rattle.progress_laws.proofs.Turning.{ballot_in, Fate, Turns, turns}
 use Rattle.progress_laws.proofs.Waiting.{still_left}
 
@@ -35,9 +32,6 @@ abbrev pub HasCause : Setting → ShardState → Type 0
 HasCause g st = (b : Ballot) → ballot_in st.proposal ≡ Some b → is_left g st ≡ true
 
 module _ (g : Setting) where
-  pub no_cause : HasCause g empty_shard
-  no_cause b e = none_some b e
-
   pub cause_kept : (s : ℕ) (k : ServerKept) (l : ServerLive) → ((n : ℕ) → HasCause g (l.shards n)) → (i : Input) (n : ℕ) → HasCause g ((server_turn g s k l i).live.shards n)
   cause_kept s k l h i n b e = ⊎_elim (λ x. still_left g (l.shards n) now x.0 (was x.1)) (λ x. none_some b (sym (ap ballot_in x.1) ∙ e)) (all.each n)
     where

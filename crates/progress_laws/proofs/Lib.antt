@@ -15,3 +15,4 @@ pub mod Stalling
 pub mod Concluding
 pub mod Moving
 pub mod Worked
+mod Words

@@ -1,13 +1,8 @@
 -- One entry of an interval in which nothing is done: what it makes of a node, and of what a node is to take.
-use Rattle.std.proofs.Common.{◌≡◌, ◌⊎◌, inl, inr, ⊎_elim, ℕ, ◌<◌, Bool, true, false, List, [], ◌∷◌, ◌++◌, length, Some, None, refl, sym, ap, ◌∙◌, subst, arith}
-use Rattle.std.specs.Prelude.{Option, filter, not}
-use Rattle.std.proofs.lemmas.Bool.{cond_both, cond-true, not-true}
-use Rattle.std.proofs.lemmas.List.Sums.{length-filter}
-use Rattle.photon_model.proofs.Words.{Mem, Each, each_at, mem_left, mem_right, mem_split, none_some, some_same, Setting, IsNode, IsTo, Packet, Node, Dispatcher, Server, Replica, Joiner, To, Only, Input, Start, Own, Tick, Deliver, Sent, Note, Out, land, ServerLive, World, Entry, Begin, End, Stop, begun, ended, row, sends, after, world_after, May, IsTurn, IsRun, same_node, put_in, is_tick_of, ticks_due, is_unfinished, is_out, to_live, IsQuiet, IsInterval, Carries, BothUp, DispatcherWorks, JoinerWorks, ServerWorks, IsWork, Cell, KeptOf, LiveOf, at_node, land_at, start_at, turn_at, row_of}
+use Rattle.std.proofs.Common.{◌≡◌, ◌⊎◌, inl, inr, ⊎_elim, ℕ, ◌<◌, Bool, true, false, List, [], ◌∷◌, ◌++◌, length, Some, None, refl, sym, ap, ◌∙◌, subst, arith, Option, filter, not}
+use Rattle.progress_laws.proofs.Words.{cond_both, cond-true, not-true, length-filter, Mem, Each, each_at, mem_left, mem_right, mem_split, none_some, some_same, Setting, IsNode, IsTo, Packet, Node, Dispatcher, Server, Replica, Joiner, To, Only, Input, Start, Own, Tick, Deliver, Sent, Note, Out, land, ServerLive, World, Entry, Begin, End, Stop, begun, ended, row, sends, after, world_after, May, IsTurn, IsRun, same_node, put_in, is_tick_of, ticks_due, is_unfinished, is_out, to_live, IsQuiet, IsInterval, Carries, BothUp, DispatcherWorks, JoinerWorks, ServerWorks, IsWork, KeptOf, LiveOf, at_node, land_at, start_at, turn_at, row_of, addressed, sent_addressed, same_node-self, own_one, HasNumbers, IsWithinLimits, NoWork, IsIdle}
+use Rattle.photon_model.proofs.Words.{Cell}
 pub use Rattle.photon_model.proofs.Worlds.{opened_at}
-use Rattle.photon_model.proofs.Finding.{addressed, sent_addressed}
-use Rattle.photon_model.proofs.Local.{same_node-self, own_one}
-use Rattle.progress_laws.specs.Idle.{HasNumbers, IsWithinLimits, NoWork, IsIdle}
 
 -- ---- a node, of whatever kind
 

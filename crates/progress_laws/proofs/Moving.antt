@@ -1,12 +1,6 @@
 -- Each refusal leaves fewer promises from a round on, so only so many idle intervals follow one another.
-use Rattle.std.proofs.Common.{◌≡◌, ⊎_elim, ℕ, zero, suc, ◌+◌, ◌<◌, ◌≤◌, Bool, true, false, cond, nat_le, List, [], ◌∷◌, ◌++◌, length, Some, None, refl, sym, ap, ◌∙◌, subst, arith}
-use Rattle.std.specs.Prelude.{Option, if◌then◌else◌}
-use Rattle.std.proofs.lemmas.Bool.{cond_both, cond-true, cond-false, le-leb, lt-leb}
-use Rattle.photon_model.proofs.Worlds.{run_append, after_append}
-use Rattle.photon_model.proofs.Words.{Ballot, Majority, Place, Setting, World, Entry, Disks, world_after, IsRun, opening}
-use Rattle.time_shards.specs.Shards.{IsTable}
-use Rattle.progress_laws.specs.Idle.{IsIdle, AreIdle}
-use Rattle.progress_laws.specs.Moves.{live_among, promise_at, IsRefusedFrom, Refusal, RestOrRefused, HeldIsRefused, WorkMovesOn, WorkMovesOnBy}
+use Rattle.std.proofs.Common.{◌≡◌, ⊎_elim, ℕ, zero, suc, ◌+◌, ◌<◌, ◌≤◌, Bool, true, false, cond, nat_le, List, [], ◌∷◌, ◌++◌, length, Some, None, refl, sym, ap, ◌∙◌, subst, arith, Option, if◌then◌else◌}
+use Rattle.progress_laws.proofs.Words.{cond_both, cond-true, cond-false, le-leb, lt-leb, run_append, after_append, Ballot, Majority, Place, Setting, World, Entry, Disks, world_after, IsRun, opening, IsTable, IsIdle, AreIdle, live_among, promise_at, IsRefusedFrom, Refusal, RestOrRefused, HeldIsRefused, WorkMovesOn, WorkMovesOnBy}
 
 abbrev is_from : ℕ → Option Ballot → Bool
 is_from n None = false

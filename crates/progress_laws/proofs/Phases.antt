@@ -1,9 +1,7 @@
 -- The phases of an attempt: what is asked and answered, who is counted, and what a promise or an acceptance makes of it.
 use Rattle.std.proofs.Common.{◌≡◌, ◌⊎◌, inl, inr, ⊎_elim, ℕ, zero, suc, ◌+◌, ◌*◌, ◌<◌, ◌≤◌, Bool, true, false, List, ◌∷◌, length, set, replicate, Some, None, refl, ap, arith, []}
 use Rattle.std.specs.Prelude.{Option, slice_get, ⊤}
-use Rattle.std.proofs.lemmas.Bool.{cases_lt, cases_Bool, le-ltb, not-false}
-use Rattle.std.proofs.lemmas.List.{length-set, length-replicate}
-use Rattle.photon_model.proofs.Words.{Ballot, marked, is_same, same_false, Batch, Place, Phase, is_new, is_most, nobody, on_promise, on_accepted, Promising, Accepting, Ended, Mem, Setting, Packet, Prepare, Promise, Nack, Accept, Accepted, Replica, Only, ServerLive, Proposal, to_from, IfUp, World}
+use Rattle.progress_laws.proofs.Words.{cases_lt, cases_Bool, le-ltb, not-false, length-set, length-replicate, Ballot, marked, is_same, same_false, Batch, Place, Phase, is_new, is_most, nobody, on_promise, on_accepted, Promising, Accepting, Ended, Mem, Setting, Packet, Prepare, Promise, Nack, Accept, Accepted, Replica, Only, ServerLive, Proposal, to_from, IfUp, World}
 
 -- the phase counts each of so many replicas, and no majority of them yet
 abbrev pub IsOpen : ℕ → Phase Batch → Type 0

@@ -1,18 +1,11 @@
 -- Where more than half of the replicas take part, each attempt ends in an interval in which nothing is done.
-use Rattle.std.proofs.Common.{◌≡◌, ◌⊎◌, inl, inr, ⊎_elim, ℕ, suc, ◌<◌, ◌≤◌, Bool, true, false, ◌||◌, nat_lt, List, ◌∷◌, length, Some, None, refl, sym, ap, ◌∙◌, subst, arith, []}
-use Rattle.std.specs.Prelude.{Option, not, is_some, slice_get}
-use Rattle.std.proofs.lemmas.Bool.{true≢false, or_left}
-use Rattle.photon_model.proofs.Words.{Ballot, marked, Majority, Batch, same_batch, bound_of, Place, Prepared, Taken, on_prepare, on_accept, Grant, Refuse, Phase, Promising, Accepting, Ended, Mem, some_same, Setting, shards, Out, is_empty, Packet, Node, Server, Replica, Only, Input, Tick, Deliver, Sent, ServerKept, ServerLive, Proposal, first_shard, is_free, shard_unfinished, server_unfinished, server_turn, ReplicaKept, cell_at, prepared, taken, replica_turn, IfUp, World, Entry, Disks, server_row, after, world_after, opening, if_up, is_unfinished}
-use Rattle.photon_model.proofs.Finding.{first_none}
-use Rattle.progress_laws.specs.Idle.{IsIdle}
-use Rattle.progress_laws.specs.Moves.{next_of}
+use Rattle.std.proofs.Common.{◌≡◌, ◌⊎◌, inl, inr, ⊎_elim, ℕ, suc, ◌<◌, ◌≤◌, Bool, true, false, ◌||◌, nat_lt, List, ◌∷◌, length, Some, None, refl, sym, ap, ◌∙◌, subst, arith, [], Option, not, is_some, slice_get}
+use Rattle.progress_laws.proofs.Words.{true≢false, or_left, Ballot, marked, Majority, Batch, same_batch, bound_of, Place, Prepared, Taken, on_prepare, on_accept, Grant, Refuse, Phase, Promising, Accepting, Ended, Mem, some_same, Setting, shards, Out, is_empty, Packet, Node, Server, Replica, Only, Input, Tick, Deliver, Sent, ServerKept, ServerLive, Proposal, first_shard, is_free, shard_unfinished, server_unfinished, server_turn, ReplicaKept, cell_at, prepared, taken, replica_turn, IfUp, World, Entry, Disks, server_row, after, world_after, opening, if_up, is_unfinished, first_none, IsIdle, next_of, slice_get_within, up_is}
 use Rattle.progress_laws.proofs.Moments.{opened_at, IsEnd, Step, along_idle, Pending, comes, SitesUp, turned, ended_own, lives, up_after, sites_up, by_turn, goes, row_sent_to}
-use Rattle.std.proofs.lemmas.Option.{slice_get_within}
 use Rattle.progress_laws.proofs.Phases.{IsOpen, IfOpen, AreOpen, question, IsAnswer, HasMark}
 use Rattle.progress_laws.proofs.Asking.{Counts, answer_counts, tick_asks}
 use Rattle.progress_laws.proofs.Turning.{AsksAll, IsKept, AllFollow, LiveOpen, turns}
 use Rattle.progress_laws.proofs.Lasting.{lasts, after_run}
-use Rattle.photon_model.proofs.Worlds.{up_is}
 
 -- the question is underway to a replica
 abbrev IsAsked : World → List Sent → List Entry → ℕ → ℕ → Place → Ballot → Phase Batch → Type 0

@@ -1,6 +1,5 @@
 -- A replica's promise at a place rises only to a ballot that it is asked with, and it refuses with its promise.
-use Rattle.std.proofs.Common.{◌≡◌, ◌⊎◌, inl, inr, cond, Some, None, refl, ap, arith}
-use Rattle.std.specs.Prelude.{Option}
+use Rattle.std.proofs.Common.{◌≡◌, ◌⊎◌, inl, inr, cond, Some, None, refl, ap, arith, Option}
 use Rattle.std.proofs.lemmas.Bool.{cond_both}
 use Rattle.photon_model.proofs.Words.{Ballot, IsBelow, IsUpTo, is_below, is_same, below_true, below_false, Batch, same_batch, Place, Vote, promise, acceptance, VotesCell as Cell, Prepared, Taken, prepare_under, on_prepare, is_accepted, vote_anew, accept_under, on_accept, Grant, Refuse, Take, Decline, cell_noted, Each, land, Packet, Prepare, Nack, Accept, Node, To, Input, Deliver, ReplicaKept, cell_at, note_at, land_replica, replica_turn}
 

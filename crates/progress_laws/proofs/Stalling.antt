@@ -1,15 +1,8 @@
 -- Where nothing is done in an interval that does not begin at rest, a slot is attempted.
-use Rattle.std.proofs.Common.{◌≡◌, inl, inr, ⊎_elim, ℕ, ◌<◌, Bool, true, false, ◌||◌, ◌&&◌, ◌==◌, List, ◌∷◌, length, Some, refl, sym, ap, ◌∙◌, subst, arith, [], None}
-use Rattle.std.specs.Prelude.{not, is_some, ◌⊎◌, Option}
-use Rattle.std.proofs.lemmas.Bool.{true≢false, and_cases, and_from, or_parts, or_left, eq-eqb, not_from_false, not-false}
-use Rattle.time_shards.specs.Shards.{IsTable}
-use Rattle.photon_model.proofs.Words.{Mem, has, Setting, IsJoiner, shards, site_of_joiner, is_empty, DispatcherLive, Fresh, waits, first_done, has_room, dispatcher_wants, dispatcher_at_rest, JoinerLive, Flight, joiner_at_rest, ServerLive, first_shard, is_free, is_below_limit, may_propose, server_wants, server_at_rest, ShardState, IfUp, World, Entry, after, world_after, UpWith}
-use Rattle.progress_laws.specs.Idle.{IsIdle, HasNumbers, IsWithinLimits}
-use Rattle.progress_laws.specs.Moves.{is_left}
-use Rattle.photon_model.proofs.Finding.{first_is, first_none}
+use Rattle.std.proofs.Common.{◌≡◌, inl, inr, ⊎_elim, ℕ, ◌<◌, Bool, true, false, ◌||◌, ◌&&◌, ◌==◌, List, ◌∷◌, length, Some, refl, sym, ap, ◌∙◌, subst, arith, [], None, not, is_some, ◌⊎◌, Option}
+use Rattle.progress_laws.proofs.Words.{true≢false, and_cases, and_from, or_parts, or_left, eq-eqb, not_from_false, not-false, IsTable, Mem, has, Setting, IsJoiner, shards, site_of_joiner, is_empty, DispatcherLive, Fresh, waits, first_done, has_room, dispatcher_wants, dispatcher_at_rest, JoinerLive, Flight, joiner_at_rest, ServerLive, first_shard, is_free, is_below_limit, may_propose, server_wants, server_at_rest, ShardState, IfUp, World, Entry, after, world_after, UpWith, IsIdle, HasNumbers, IsWithinLimits, is_left, first_is, first_none, up_is}
 use Rattle.progress_laws.proofs.Waiting.{IsLeftAt, left_stays}
 use Rattle.progress_laws.proofs.Claims.{HasFlight, HasOwnTokens, flight_stays, asks}
-use Rattle.photon_model.proofs.Worlds.{up_is}
 use Rattle.progress_laws.proofs.Trying.{HasLines, IsLineAt, IsTried, HasTried, tries}
 use Rattle.progress_laws.proofs.Moments.{along_idle}
 

@@ -1,12 +1,9 @@
 -- In an interval in which nothing is done a line that a dispatcher has tried gets a joiner of its site a join in flight.
-use Rattle.std.proofs.Common.{◌≡◌, ◌⊎◌, inl, inr, ⊎_elim, ℕ, ◌<◌, Bool, true, false, ◌&&◌, ◌==◌, nat_lt, ◌-◌, ◌^◌, List, ◌∷◌, length, Some, refl, sym, ap, ◌∙◌, subst, lit<, [], arith}
-use Rattle.std.specs.Prelude.{Option, not}
-use Rattle.std.proofs.lemmas.Bool.{cond_both, true≢false, cases_Bool, and_parts, or_cases, or_left, or_right, eqb-true, lt-ltb, not_from_true}
-use Rattle.photon_model.proofs.Words.{clash, Click, ClickLine, at, first, Mem, has, mem_left, mem_right, option_both, has_without-self, Setting, IsJoiner, site_of_joiner, IsTo, Note, Out, idle, Packet, Join, Joined, NoQuery, Node, Dispatcher, Joiner, To, Only, AnyJoiner, Input, Tick, Deliver, Sent, DispatcherKept, DispatcherLive, Fresh, waits, mark, join, fresh_joins, join_if, trying_joins, dispatcher_turn, dispatcher_unfinished, some_waits, JoinerKept, JoinerLive, Flight, in_flight, looks, joiner_turn, World, Entry, dispatcher_row, joiner_row, after, world_after, DispatcherWorks, if_up, is_out, IfUp}
-use Rattle.progress_laws.specs.Idle.{IsIdle}
+use Rattle.std.proofs.Common.{◌≡◌, ◌⊎◌, inl, inr, ⊎_elim, ℕ, ◌<◌, Bool, true, false, ◌&&◌, ◌==◌, nat_lt, ◌-◌, ◌^◌, List, ◌∷◌, length, Some, refl, sym, ap, ◌∙◌, subst, lit<, [], arith, Option, not}
+use Rattle.progress_laws.proofs.Words.{cond_both, true≢false, cases_Bool, and_parts, or_cases, or_left, or_right, eqb-true, lt-ltb, not_from_true, clash, Click, ClickLine, at, Mem, has, mem_left, mem_right, option_both, has_without-self, Setting, IsJoiner, site_of_joiner, IsTo, Note, Out, idle, Packet, Join, Joined, NoQuery, Node, Dispatcher, Joiner, To, Only, AnyJoiner, Input, Tick, Deliver, Sent, DispatcherKept, DispatcherLive, Fresh, waits, mark, join, fresh_joins, join_if, trying_joins, dispatcher_turn, dispatcher_unfinished, some_waits, JoinerKept, JoinerLive, Flight, in_flight, looks, joiner_turn, World, Entry, dispatcher_row, joiner_row, after, world_after, DispatcherWorks, if_up, is_out, IfUp, IsIdle, up_is}
+use Rattle.photon_model.proofs.Words.{first}
 use Rattle.progress_laws.proofs.Moments.{opened_at, IsEnd, Step, along_idle, Pending, comes, turned, ended_own, lives, up_after, no_work, goes, row_sent, row_sent_to}
 use Rattle.progress_laws.proofs.Claims.{HasFlight, flight_stays}
-use Rattle.photon_model.proofs.Worlds.{up_is}
 
 -- ---- what becomes of a line that a dispatcher has tried
 

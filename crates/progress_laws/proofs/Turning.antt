@@ -1,13 +1,8 @@
 -- What a server's turn makes of each of its shards, and what it asks.
-use Rattle.std.proofs.Common.{subst, ◌+◌, ◌≡◌, ◌⊎◌, inl, inr, ℕ, suc, ◌<◌, ◌≤◌, max, Bool, true, false, ◌||◌, ◌&&◌, nat_lt, List, ◌∷◌, ◌++◌, length, take, Some, None, refl, sym, ap, ◌∙◌, arith, ◌-◌, []}
-use Rattle.std.specs.Prelude.{Option, not}
-use Rattle.std.proofs.lemmas.Bool.{and_parts}
-use Rattle.std.proofs.lemmas.List.{length-append, length-replicate}
-use Rattle.photon_model.proofs.Words.{server_tick, Ballot, Insert, Batch, bound_of, Place, Phase, nobody, on_promise, on_accepted, Promising, Accepting, Mem, Each, set_at, at_set, mem_left, none_some, some_same, Setting, shard, Out, is_empty, Packet, Prepare, Promise, Nack, Accept, Accepted, Chosen, Server, Replica, To, Only, Input, Own, Deliver, ServerKept, ServerLive, ShardState, Proposal, to_replicas, is_below_limit, is_free, may_propose, reply, replies, learns, owns, goes_on, promised, accepted, nacked, server_turn}
-use Rattle.photon_model.proofs.ServerRows.{current_at, replicas_each, reply_each, replies_each, tick_each, every_row}
-use Rattle.progress_laws.specs.Moves.{is_left, next_of}
+use Rattle.std.proofs.Common.{subst, ◌+◌, ◌≡◌, ◌⊎◌, inl, inr, ℕ, suc, ◌<◌, ◌≤◌, max, Bool, true, false, ◌||◌, ◌&&◌, nat_lt, List, ◌∷◌, ◌++◌, length, take, Some, None, refl, sym, ap, ◌∙◌, arith, ◌-◌, [], Option, not}
+use Rattle.progress_laws.proofs.Words.{and_parts, length-append, length-replicate, server_tick, Ballot, Insert, Batch, bound_of, Place, Phase, nobody, on_promise, on_accepted, Promising, Accepting, Mem, Each, set_at, at_set, mem_left, none_some, some_same, Setting, shard, Out, is_empty, Packet, Prepare, Promise, Nack, Accept, Accepted, Chosen, Server, Replica, To, Only, Input, Own, Deliver, ServerKept, ServerLive, ShardState, Proposal, to_replicas, is_below_limit, is_free, may_propose, reply, replies, learns, owns, goes_on, promised, accepted, nacked, server_turn, current_at, replicas_each, reply_each, replies_each, tick_each, is_left, next_of, set_own}
+use Rattle.photon_model.proofs.ServerRows.{every_row}
 use Rattle.progress_laws.proofs.Phases.{IsOpen, IfOpen, question, PhaseGoes, phase_same, nobody_open, promise_goes, accepted_goes, promise_open, accepted_open, mem_to}
-use Rattle.photon_model.proofs.Worlds.{set_own}
 use Rattle.turn_defs.specs.declared.packet.Packet.TheVariants as packet
 
 -- the ballot of a shard's attempt

@@ -1,12 +1,9 @@
 -- What is left to do at a server stays so where nothing is learned, as in an interval in which nothing is done; and an insert
 -- that comes is answered, or waits.
-use Rattle.std.proofs.Common.{◌≡◌, ⊎_elim, ℕ, ◌≤◌, Bool, List, Some, refl, sym, ◌∙◌, subst, ◌⊎◌, inl, inr, ◌<◌, true, ◌||◌, ◌==◌, nat_lt, nat_le, ◌∷◌, ◌++◌, length, None, ap, []}
-use Rattle.photon_model.proofs.Words.{MOST_WAITING, Setting, Input, Server, Sent, ServerLive, server_turn, World, Entry, server_row, after, Insert, Token, Answer, bound_of, replay, Mem, mem_right, shard, shards, Out, idle, is_empty, Reply, Node, Joiner, Only, ServerKept, ShardState, queued, is_own_joiner, claimed, server_gets}
+use Rattle.std.proofs.Common.{◌≡◌, ⊎_elim, ℕ, ◌≤◌, Bool, List, Some, refl, sym, ◌∙◌, subst, ◌⊎◌, inl, inr, ◌<◌, true, ◌||◌, ◌==◌, nat_lt, nat_le, ◌∷◌, ◌++◌, length, None, ap, [], Option, not}
+use Rattle.progress_laws.proofs.Words.{MOST_WAITING, Setting, Input, Server, Sent, ServerLive, server_turn, World, Entry, server_row, after, Insert, Token, Answer, bound_of, replay, Mem, mem_right, shard, shards, Out, idle, is_empty, Reply, Node, Joiner, Only, ServerKept, ShardState, queued, is_own_joiner, claimed, server_gets, cond_both, cond-true, eq-eqb, or_cases, or_left, or_right, true≢false, is_left}
 use Rattle.progress_laws.proofs.Moments.{opened_at, IsEnd, Step, turned, lives, ends, no_work}
 use Rattle.progress_laws.proofs.Turning.{Same, Fate, AllAsk, Turns, turns}
-use Rattle.std.specs.Prelude.{Option, not}
-use Rattle.std.proofs.lemmas.Bool.{cond_both, cond-true, eq-eqb, or_cases, or_left, or_right, true≢false}
-use Rattle.progress_laws.specs.Moves.{is_left}
 use Rattle.turn_defs.specs.declared.packet.Packet.TheVariants as packet
 
 -- the site's server is up, and something is left to do in one of its shards

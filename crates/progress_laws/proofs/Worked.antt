@@ -1,14 +1,9 @@
 -- The worked intervals, computed.
-use Rattle.std.proofs.Common.{◌≡◌, inl, ℕ, zero, suc, ◌<◌, Bool, true, false, nat_lt, ◌==◌, List, [], ◌∷◌, ◌++◌, length, Some, None, refl, sym, ap, arith, lit<}
-use Rattle.std.specs.Prelude.{not, is_some, filter, Option}
-use Rattle.std.proofs.lemmas.Bool.{true≢false, ltb-true, eqb-true, not-true}
-use Rattle.photon_model.proofs.Worlds.{of_two}
-use Rattle.photon_model.proofs.Words.{at_node, Note, IsInterval, Ballot, is_same, same_true, same_batch, same_batch-true, Place, is_place, place_true, Packet, Prepare, Promise, Nack, Accept, Accepted, Chosen, Node, Dispatcher, Server, Replica, Joiner, To, Only, AnyJoiner, Input, Start, Deliver, IsNode, Addressed, Sent, IsJoiner, shards, dispatcher_wants, ServerLive, is_below_limit, server_wants, IfUp, World, Entry, Begin, End, Stop, Fits, WasSent, MayBegin, May, IsRun, sends, after, world_after, same_node, UpWith, IsWork, put_in, ticks_of, ticks_due, is_unfinished, to_live, Carries, IsQuiet, Cell}
-use Rattle.std.proofs.lemmas.List.{length-append}
-use Rattle.progress_laws.specs.Idle.{HasNumbers, IsWithinLimits, NoWork, IsIdle}
-use Rattle.progress_laws.specs.Rows.{three, all_live, to_one, ends, plays, duel, restarts, beginning, down_again, stale, first, second, third, fourth, after_first, after_second, after_third, CarriesOnce, ThreeAreIdle}
+use Rattle.std.proofs.Common.{◌≡◌, inl, ℕ, zero, suc, ◌<◌, Bool, true, false, nat_lt, ◌==◌, List, [], ◌∷◌, ◌++◌, length, Some, None, refl, sym, ap, arith, lit<, not, is_some, filter, Option, length-append}
+use Rattle.progress_laws.proofs.Words.{true≢false, ltb-true, eqb-true, not-true, of_two, at_node, Note, IsInterval, Ballot, is_same, same_true, same_batch, same_batch-true, Place, is_place, place_true, Packet, Prepare, Promise, Nack, Accept, Accepted, Chosen, Node, Dispatcher, Server, Replica, Joiner, To, Only, AnyJoiner, Input, Start, Deliver, IsNode, Addressed, Sent, IsJoiner, shards, dispatcher_wants, ServerLive, is_below_limit, server_wants, IfUp, World, Entry, Begin, End, Stop, Fits, WasSent, MayBegin, May, IsRun, sends, after, world_after, same_node, UpWith, IsWork, put_in, ticks_of, ticks_due, is_unfinished, to_live, Carries, IsQuiet, HasNumbers, IsWithinLimits, NoWork, IsIdle, three, all_live, to_one, ends, plays, duel, restarts, beginning, down_again, stale, second, third, fourth, after_first, after_second, after_third, CarriesOnce, ThreeAreIdle, same_node-true}
+use Rattle.photon_model.proofs.Words.{Cell}
+use Rattle.progress_laws.specs.Rows.{first}
 use Rattle.progress_laws.proofs.Moments.{put_back, row_at, begun_own}
-use Rattle.photon_model.proofs.Local.{same_node-true}
 use Rattle.progress_laws.proofs.Turning.{teaches, turns}
 
 -- a list is longer than what is left of it

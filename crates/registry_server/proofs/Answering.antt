@@ -1,6 +1,5 @@
 -- The rows that look for the proposal at a place and ballot, and those that learn a value.
-use Rattle.std.proofs.Common.{◌≡◌, ℕ, ◌-◌, ◌<◌, ◌≤◌, ◌&&◌, Bool, true, false, is_some, List, [], ◌∷◌, length, Some, None, refl, sym, ap, ◌∙◌, subst, arith}
-use Rattle.std.specs.Prelude.{Option, option_map}
+use Rattle.std.proofs.Common.{◌≡◌, ℕ, ◌-◌, ◌<◌, ◌≤◌, ◌&&◌, Bool, true, false, is_some, List, [], ◌∷◌, length, Some, None, refl, sym, ap, ◌∙◌, subst, arith, Option, option_map}
 use Rattle.registry_server.proofs.Words.{LAST_SLOT, cond-false, and_left, and_right, le-ltb, ne_eqb, Ballot, Batch, Place, Phase, on_promise, on_accepted, Proposer, ballot_of, own_of, phase_of, promise_turn, acceptance_turn, Packet, AcceptPacket, Chosen, Node, Server, Only, Setting, idle, ServerKept, ServerLive, is_below_limit, is_next, to_replicas, accept_if, promised, accepted, gets_promise, gets_accepted, gets_chosen, setting, sent, NotLast, proposal_of, counts_promise, Gives, IsStep, IsAt, FitsAt, Out, Proposal, is_current, accept_all, current_of, learns_behind, Station, Shard, Promise, Accept, Change, Turn}
 use Rattle.registry_server.specs.declared.turn.Change.TheVariants as change
 use Rattle.registry_server.proofs.Going.{current_is, is_turn, is_acceptance, accepted_value, row_some, row_none}

@@ -1,6 +1,5 @@
 -- A turn of a server over its disk, and its restart, as the states' entries.
-use Rattle.std.proofs.Common.{◌≡◌, ◌==◌, ◌⊎◌, cond, not, arith, inl, inr, ⊎_elim, ℕ, ◌+◌, ◌≤◌, true, false, List, [], length, Option, Some, None, refl, sym, ap, ◌∙◌, subst}
-use Rattle.std.specs.Prelude.{Bool, is_some, option_map}
+use Rattle.std.proofs.Common.{◌≡◌, ◌==◌, ◌⊎◌, cond, not, arith, inl, inr, ⊎_elim, ℕ, ◌+◌, ◌≤◌, true, false, List, [], length, Option, Some, None, refl, sym, ap, ◌∙◌, subst, Bool, is_some, option_map}
 use Rattle.registry_server.proofs.Words.{ends_idle, ends_done, Throughout, eq-eqb, ne_eqb, turn_moments, IsOpened, read_as, epochs, Keeps, IsLeft, JournalState, Ready, Bytes, Begin, End, Stop, Input, Note, land, AreSpelled, Reads, IsJunk, record_of, Leads, row, written, closes, land_server, note_of, SiteKept, RegistrarView, ServesSite, Knows, IsRow, landed, server_rows, ServerNote, Turn, ServerState, recorded, Holds, HoldsOr, OnDisk, OnDiskOr, KeptOn, StandsAt}
 use Rattle.registry_server.proofs.Landing.{down_stands, left_of, noted_bytes, moved}
 

@@ -1,6 +1,5 @@
 -- A proposal goes on until a majority has accepted its value.
-use Rattle.std.proofs.Common.{◌≡◌, ℕ, ◌<◌, true, false, cond, is_some, List, length, Some, None, sym, ap, ◌∙◌, subst, arith}
-use Rattle.std.specs.Prelude.{Option, option_map, Bool}
+use Rattle.std.proofs.Common.{◌≡◌, ℕ, ◌<◌, true, false, cond, is_some, List, length, Some, None, sym, ap, ◌∙◌, subst, arith, Option, option_map, Bool}
 use Rattle.registry_server.proofs.Words.{cond_both, cond-true, and_parts, and_from, and_left, and_right, lt-ltb, eq-eqb, eqb-true, false_from_ne_true, cond_some, none-some, tied_itself, is_eq, Ballot, is_same, ballots_total, Batch, Place, Phase, is_new, on_promise, with_acceptance, on_accepted, Accepting, Proposer, ballot_of, own_of, phase_of, promise_turn, acceptance_turn, Setting, shards, Out, idle, ServerLive, ShardState, Proposal, is_current, proposal_of, current_in, current_of, Shard}
 
 pub same_itself : (b : Ballot) → is_same b b ≡ true

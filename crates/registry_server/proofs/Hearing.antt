@@ -1,6 +1,5 @@
 -- Packets that no row answers.
-use Rattle.std.proofs.Common.{◌≡◌, ℕ, arith}
-use Rattle.std.specs.Prelude.{Option, Some, None}
+use Rattle.std.proofs.Common.{◌≡◌, ℕ, arith, Option, Some, None}
 use Rattle.registry_server.proofs.Words.{Ballot, Insert, Batch, Place, Packet, Node, Replica, Setting, idle, Out, ServerKept, ServerLive, from_replica, server_gets, Gives, Turn, number_of}
 use Rattle.turn_defs.specs.declared.packet.Packet.TheVariants as packet
 

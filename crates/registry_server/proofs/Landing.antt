@@ -1,6 +1,5 @@
 -- What a server over its disk stands for.
-use Rattle.std.proofs.Common.{◌≡◌, ◌⊎◌, inl, inr, ⊎_elim, ℕ, ◌+◌, Bool, true, false, List, Option, Some, None, refl, subst, arith}
-use Rattle.std.specs.Prelude.{is_some, option_map}
+use Rattle.std.proofs.Common.{◌≡◌, ◌⊎◌, inl, inr, ⊎_elim, ℕ, ◌+◌, Bool, true, false, List, Option, Some, None, refl, subst, arith, is_some, option_map}
 use Rattle.registry_server.proofs.Words.{none_of, cond-true, KeepsOr, IsLeft, JournalState, Bytes, Input, Start, Setting, record_of, Reads, IsJunk, NodeFault, Config, ServerKept, ServerLive, Stands, note_of, SiteKept, RegistrarView, ServesSite, Knows, KnowsAs, landed, site_of, Turn, ServerCore, ServerNote, ServerState, recorded, Holds, StandsAt, is_spent_at, spent_at, IsNotPrepared}
 use Rattle.air_bus.specs.declared.entry.Input.TheVariants as bytes
 use Rattle.site_node.specs.declared.kind.NodeFault.TheVariants as fault

@@ -1,6 +1,5 @@
 -- A queue that puts an insert in, as the turn table says it.
-use Rattle.std.proofs.Common.{◌≡◌, ◌≤◌, List, [], ◌∷◌, length, refl, arith}
-use Rattle.std.specs.Prelude.{Result, OnOk, OnErr, IfErr, IsErr}
+use Rattle.std.proofs.Common.{◌≡◌, ◌≤◌, List, [], ◌∷◌, length, refl, arith, Result, OnOk, OnErr, IfErr, IsErr}
 use Rattle.registry_server.proofs.Words.{MOST_WAITING, Token, Insert, has_token, with_last, HasNoPlace, Put, Full, queued, put_last}
 
 pub queued_has : (q : List Insert) (t : Token) → queued q t ≡ has_token q t

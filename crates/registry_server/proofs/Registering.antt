@@ -1,6 +1,5 @@
 -- What a registrar decides and keeps.
-use Rattle.std.proofs.Common.{◌≡◌, inl, inr, ⊎_elim, ℕ, Bool, true, false, Option, Some, None, refl, sym, ap, ◌∙◌, subst}
-use Rattle.std.specs.Prelude.{All, option_map, Result, Ok, Err, IfOk}
+use Rattle.std.proofs.Common.{◌≡◌, inl, inr, ⊎_elim, ℕ, Bool, true, false, Option, Some, None, refl, sym, ap, ◌∙◌, subst, All, option_map, Result, Ok, Err, IfOk}
 use Rattle.registry_server.proofs.Words.{sent_ok, Packet, Node, Input, Start, Own, Tick, Deliver, IsPacket, Setting, Note, Out, land, IsInput, row_of, ServerKept, ServerLive, land_server, server_start, server_turn, Stands, Serves, Begins, IsTurn, Carries, CarriesStart, changed, note_of, site_of, IsSpelledPlan, IsSpelledLive, SiteKept, KnowsAs, Knows, Fits, MayRaise, IsNextNote, IsRow, Makes, IsSpelledCore, IsSpelledTurn, landed, server_rows, ServerCore, ServerInput, ServerNote, Turn}
 use Rattle.registry_server.proofs.Spelling.{Sends, start_ok, turn_ok}
 

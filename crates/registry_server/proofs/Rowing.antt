@@ -1,6 +1,5 @@
 -- A step of one shard as a row's turn.
-use Rattle.std.proofs.Common.{◌≡◌, ℕ, ◌+◌, ◌≤◌, true, List, [], ◌∷◌, ◌++◌, take, Some, None, refl, sym, ap, ◌∙◌, subst, arith}
-use Rattle.std.specs.Prelude.{option_map, min}
+use Rattle.std.proofs.Common.{◌≡◌, ℕ, ◌+◌, ◌≤◌, true, List, [], ◌∷◌, ◌++◌, take, Some, None, refl, sym, ap, ◌∙◌, subst, arith, option_map, min}
 use Rattle.registry_server.proofs.Words.{MOST_INSERTS, set_at, Insert, Batch, Answer, replay, batch_of, waiting, answered, nobody, Promising, Proposer, ballot_of, own_of, phase_of, Packet, Prepare, Node, To, Setting, Out, ServerKept, ServerLive, ShardState, claimed, reply, replies, may_propose, to_replicas, setting, sent, each_reply, IsShard, stepped, proposal_of, Gives, IsStep, IsAt, proposes_if, learns_behind, Station, Shard, Step, Propose, Learn, Turn}
 use Rattle.registry_server.specs.declared.turn.Change.TheVariants as change
 use Rattle.registry_server.proofs.Sending.{replies_each}

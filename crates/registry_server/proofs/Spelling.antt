@@ -1,6 +1,5 @@
 -- Where the server's numbers, what it knows and the input have spellings, so have the row's packets and what it knows next.
-use Rattle.std.proofs.Common.{◌≡◌, ℕ, suc, ◌+◌, ◌^◌, ◌<◌, ◌≤◌, ◌||◌, Bool, true, List, [], ◌∷◌, ◌++◌, length, take, Option, Some, None, refl, arith}
-use Rattle.std.specs.Prelude.{nat_le, IfSome}
+use Rattle.std.proofs.Common.{◌≡◌, ℕ, suc, ◌+◌, ◌^◌, ◌<◌, ◌≤◌, ◌||◌, Bool, true, List, [], ◌∷◌, ◌++◌, length, take, Option, Some, None, refl, arith, nat_le, IfSome}
 use Rattle.registry_server.proofs.Words.{MOST_WAITING, LAST_SLOT, LAST_EPOCH, cond_both, ltb-true, and_parts, length-take, Each, each_append, at_set, EventId, same_id, Ballot, Token, Insert, Batch, Answer, Granted, Duplicate, same_token, bound_of, first_in, first_insert, replay_held, IsToken, IsInsert, IsAnswer, IsPlace, IsBallot, IsBatch, IsPrior, Place, higher, Phase, nobody, on_promise, on_accepted, Promising, Packet, Node, Input, To, IsPacket, Setting, shards, Out, idle, ServerKept, ServerLive, ShardState, Proposal, empty_shard, queued, to_from, is_below_limit, may_propose, first_shard, is_current, reply_if, replies, unanswered, with_shard, claimed, proposes, goes_on, accept_if, promised, accepted, nacked, gets_promise, gets_accepted, gets_nack, gets_chosen, again, all_again, server_gets, server_turn, server_start, IsSpelledPhase, IsSpelledProposal, IsSpelledShard, IsSpelledPlan, IsSpelledLive, IsInput}
 use Rattle.turn_defs.specs.declared.packet.Packet.TheVariants as packet
 

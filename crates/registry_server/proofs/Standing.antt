@@ -1,6 +1,5 @@
 -- What a core stands for, shard by shard.
-use Rattle.std.proofs.Common.{◌≡◌, ℕ, zero, suc, ◌+◌, ◌-◌, ◌<◌, ◌≤◌, Bool, true, false, List, ◌++◌, length, get_or, Some, None, refl, sym, ap, ◌∙◌, subst, arith}
-use Rattle.std.specs.Prelude.{Option}
+use Rattle.std.proofs.Common.{◌≡◌, ℕ, zero, suc, ◌+◌, ◌-◌, ◌<◌, ◌≤◌, Bool, true, false, List, ◌++◌, length, get_or, Some, None, refl, sym, ap, ◌∙◌, subst, arith, Option}
 use Rattle.registry_server.proofs.Words.{LAST_SLOT, cond-false, cond_both, le-ltb, append-nil, append_assoc, Ballot, Insert, shard_count, Place, Packet, Node, To, Setting, shards, Out, idle, Addressed, ServerKept, ServerLive, ShardState, Proposal, first_shard, may_propose, owns, server_own, is_current, is_below_limit, server_gets, again, all_again, setting, IsShard, passes, Stands, Gives, IsTurn, IsAt, number_of, proposes_if, Shard, Test, Turn, ServerCore}
 use Rattle.turn_defs.specs.declared.packet.Packet.TheVariants as packet
 use Rattle.registry_server.proofs.Sending.{addressed}

@@ -1,6 +1,5 @@
 -- What the tests of a shard say.
-use Rattle.std.proofs.Common.{◌≡◌, ℕ, ◌<◌, ◌==◌, true, is_none, length, sym, ap, arith}
-use Rattle.std.specs.Prelude.{Bool, nat_lt}
+use Rattle.std.proofs.Common.{◌≡◌, ℕ, ◌<◌, ◌==◌, true, is_none, length, sym, ap, arith, Bool, nat_lt}
 use Rattle.registry_server.proofs.Words.{LAST_SLOT, waiting, bound_of, Setting, is_empty, ShardState, is_free, setting, IsShard, passes, says, Station, Shard, Test, MayPropose}
 use Rattle.registry_server.proofs.Rowing.{queue_is, proposal_is}
 

@@ -3,32 +3,24 @@ pub use Rattle.air_bus.specs.declared.entry.Entry.TheVariants.{Begin, End, Stop}
 pub use Rattle.air_bus.specs.declared.entry.Input.{Input as Bytes}
 pub use Rattle.ballot_core.proofs.Order.{ballots_total}
 pub use Rattle.ballot_core.specs.Ballots.{is_same}
-pub use Rattle.ballot_core.specs.declared.Ballot.{Ballot}
-pub use Rattle.ballot_core.specs.declared.TheConstants.{LAST_EPOCH}
+pub use Rattle.registry_server.specs.Terms.{Accepting, Addressed, Answer, AreSpelled, Ballot, Batch, Deliver, Each, Fits, Input, Insert, IsInput, IsLeft, JournalState, Keeps, KeepsOr, LAST_EPOCH, LAST_SLOT, Leads, MOST_INSERTS, MOST_WAITING, Node, Note, Only, Out, Own, Packet, Phase, Place, Promising, Proposal, Proposer, Reads, Ready, ServerKept, ServerLive, Setting, ShardState, Start, Tick, To, again, ballot_of, bound_of, claimed, empty_shard, from_replica, gets_accepted, gets_chosen, gets_nack, gets_promise, idle, is_below_limit, is_own_joiner, land, land_server, learns, may_propose, nobody, on_accepted, on_promise, own_of, phase_of, promise_turn, proposes, queued, replay, replies, reply, row, row_of, server_gets, server_start, server_turn, set_at, shard, shards, to_replicas, waiting, with_shard, written}
 pub use Rattle.batch_queue.proofs.Answering.{answered-append}
-pub use Rattle.batch_queue.specs.Queue.{waiting}
 pub use Rattle.batch_queue.specs.Waiting.{HasNoPlace, IsUnanswered, answered, has_token, replays, unanswered as left_of, with_last}
 pub use Rattle.batch_queue.specs.declared.queue.BatchQueue.{BatchQueue}
 pub use Rattle.batch_queue.specs.declared.queue.Put.{Put}
 pub use Rattle.batch_queue.specs.declared.queue.Put.TheVariants.{Full}
-pub use Rattle.epoch_journal.specs.Epochs.{IsLeft, Keeps, KeepsOr, epochs}
+pub use Rattle.epoch_journal.specs.Epochs.{epochs}
 pub use Rattle.epoch_journal.specs.declared.epochs.Epochs.{Epochs}
 pub use Rattle.event_id.specs.EventId.{is_same as same_id}
 pub use Rattle.event_id.specs.declared.id.EventId.{EventId}
 pub use Rattle.gate_journal.specs.Fold.{read_as}
 pub use Rattle.gate_journal.specs.Opening.{IsOpened}
-pub use Rattle.gate_journal.specs.declared.journal.JournalState.{JournalState}
-pub use Rattle.gate_journal.specs.declared.journal.JournalState.TheVariants.{Ready}
 pub use Rattle.id_expiry.specs.declared.timed.TimedRegistry.{TimedRegistry}
 pub use Rattle.list_words.proofs.Lists.{at_set, each_append}
-pub use Rattle.list_words.specs.Lists.{Each, set_at}
 pub use Rattle.outside.specs.Disk.{Throughout}
-pub use Rattle.paxos_defs.specs.Attempts.{Phase, is_new, nobody, on_accepted, on_promise, with_acceptance}
-pub use Rattle.paxos_defs.specs.Attempts.Phase.{Accepting, Promising}
+pub use Rattle.paxos_defs.specs.Attempts.{is_new, with_acceptance}
 pub use Rattle.paxos_defs.specs.Turns.{higher}
-pub use Rattle.paxos_defs.specs.declared.Place.{Place}
-pub use Rattle.paxos_proposer.specs.Proposals.{acceptance_turn, ballot_of, own_of, phase_of, promise_turn}
-pub use Rattle.paxos_proposer.specs.declared.proposer.Proposer.{Proposer}
+pub use Rattle.paxos_proposer.specs.Proposals.{acceptance_turn}
 pub use Rattle.registry_server.specs.Cores.{Begins, Carries, CarriesStart, Gives, IsStep, IsTurn, Serves, Stands, changed, note_of, site_of}
 pub use Rattle.registry_server.specs.Kept.{kept_images}
 pub use Rattle.registry_server.specs.Node.{Holds, HoldsOr, IsNotPrepared, KeptOn, OnDisk, OnDiskOr, ServerState, StandsAt, is_spent_at, recorded, spent_at}
@@ -49,17 +41,14 @@ pub use Rattle.registry_server.specs.declared.turn.Change.{Change}
 pub use Rattle.registry_server.specs.declared.turn.ServerInput.{ServerInput}
 pub use Rattle.registry_server.specs.declared.turn.ServerNote.{ServerNote}
 pub use Rattle.registry_server.specs.declared.turn.Turn.{Turn}
-pub use Rattle.registry_state.specs.LookBack.{bound_of, first_in, first_insert, or_else, replay, replay_held}
+pub use Rattle.registry_state.specs.LookBack.{first_in, first_insert, or_else, replay_held}
 pub use Rattle.registry_state.specs.Registry.{batch_of}
 pub use Rattle.registry_state.specs.Same.{same_token}
-pub use Rattle.registry_state.specs.declared.Answer.{Answer}
 pub use Rattle.registry_state.specs.declared.Answer.TheVariants.{Duplicate, Granted, TooOld}
-pub use Rattle.registry_state.specs.declared.Batch.{Batch}
-pub use Rattle.registry_state.specs.declared.Insert.{Insert}
 pub use Rattle.registry_state.specs.declared.Token.{Token}
 pub use Rattle.site_node.proofs.Turns.{ends_done, ends_idle, fits_of, none_of, on_err, sent_ok, turn_grown, turn_moments}
-pub use Rattle.site_node.specs.Bytes.{AreSpelled, IsInput, IsJunk, Reads, record_of}
-pub use Rattle.site_node.specs.States.{Fits, Leads, closes, row, row_of, written}
+pub use Rattle.site_node.specs.Bytes.{IsJunk, record_of}
+pub use Rattle.site_node.specs.States.{closes}
 pub use Rattle.site_node.specs.declared.kind.NodeFault.{NodeFault}
 pub use Rattle.turn_defs.specs.declared.config.Config.{Config}
 pub use Rattle.std.proofs.lemmas.Bool.{and_from, and_left, and_parts, and_right, cases_eq, cond-false, cond-true, cond_both, eq-eqb, eqb-true, false_from_ne_true, le-ltb, lt-ltb, ltb-true, ne_eqb}
@@ -71,20 +60,10 @@ pub use Rattle.std.proofs.lemmas.Result.{IfOk-weaker}
 pub use Rattle.std.specs.List.{cons_option}
 pub use Rattle.std.specs.Ordering.{is_eq}
 pub use Rattle.time_shards.specs.Shards.{shard_count}
-pub use Rattle.turn_defs.specs.Nodes.{Addressed}
 pub use Rattle.turn_defs.specs.Packets.{IsPacket}
 pub use Rattle.turn_defs.specs.Rows.{worked}
-pub use Rattle.turn_defs.specs.Server.{Proposal, ServerKept, ServerLive, ShardState, accept_if, accepted, again, all_again, claimed, empty_shard, first_shard, from_replica, gets_accepted, gets_chosen, gets_nack, gets_promise, goes_on, is_below_limit, is_current, is_free, is_next, is_own_joiner, keep_if, land_server, learns, may_propose, nacked, of_phase, owns, promised, proposes, queued, replies, reply, reply_if, server_gets, server_own, server_start, server_tick, server_turn, to_from, to_replicas, unanswered, with_shard}
-pub use Rattle.turn_defs.specs.Setting.{Setting, shard, shards}
+pub use Rattle.turn_defs.specs.Server.{accept_if, accepted, all_again, first_shard, goes_on, is_current, is_free, is_next, keep_if, nacked, of_phase, owns, promised, reply_if, server_own, server_tick, to_from, unanswered}
 pub use Rattle.turn_defs.specs.Spellings.{IsAnswer, IsBallot, IsBatch, IsInsert, IsPlace, IsPrior, IsToken}
-pub use Rattle.turn_defs.specs.Turns.{Note, Out, idle, is_empty, land}
-pub use Rattle.turn_defs.specs.declared.limits.TheConstants.{LAST_SLOT}
-pub use Rattle.registry_state.specs.declared.TheConstants.{MOST_INSERTS, MOST_WAITING}
-pub use Rattle.turn_defs.specs.declared.node.Input.{Input}
-pub use Rattle.turn_defs.specs.declared.node.Input.TheVariants.{Deliver, Own, Start, Tick}
-pub use Rattle.turn_defs.specs.declared.node.Node.{Node}
+pub use Rattle.turn_defs.specs.Turns.{is_empty}
 pub use Rattle.turn_defs.specs.declared.node.Node.TheVariants.{Joiner, Replica, Server}
-pub use Rattle.turn_defs.specs.declared.node.To.{To}
-pub use Rattle.turn_defs.specs.declared.node.To.TheVariants.{Only}
-pub use Rattle.turn_defs.specs.declared.packet.Packet.{Packet}
 pub use Rattle.turn_defs.specs.declared.packet.Packet.TheVariants.{Accept as AcceptPacket, Chosen, Prepare}

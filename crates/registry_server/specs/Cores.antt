@@ -1,15 +1,8 @@
 -- A server's core as what it stands for, and its turns as rows of the turn table.
 use Rattle.std.specs.Prelude.{◌≡◌, ℕ, ◌<◌, ◌+◌, List, length, get_or, false, Some, None, option_map, ⊤}
-use Rattle.ballot_core.specs.declared.TheConstants.{LAST_EPOCH}
-use Rattle.list_words.specs.Lists.{set_at}
-use Rattle.turn_defs.specs.Setting.{Setting}
-use Rattle.turn_defs.specs.Turns.{Out, Note, Epoch}
-use Rattle.turn_defs.specs.Nodes.{Addressed}
+use Rattle.registry_server.specs.Terms.{Addressed, Epoch, Input, LAST_EPOCH, Node, Note, Out, ServerKept, ServerLive, Setting, empty_shard, set_at}
 use Rattle.turn_defs.specs.declared.packet.Packet.{Packet as Message}
-use Rattle.turn_defs.specs.declared.node.Node.{Node}
-use Rattle.turn_defs.specs.declared.node.Input.{Input}
 use Rattle.turn_defs.specs.declared.node.Input.TheVariants as input
-use Rattle.turn_defs.specs.Server.{ServerKept, ServerLive, empty_shard}
 use Rattle.registry_server.specs.Stations.{sent}
 use Rattle.registry_server.specs.ShardStates.{EachStands, FitsStep, stepped}
 use Rattle.registry_server.specs.declared.shard.Shard.{Shard}

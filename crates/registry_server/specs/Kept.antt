@@ -1,9 +1,6 @@
 -- What a server's disk may hold, whatever a stop leaves of it.
 use Rattle.std.proofs.Common.{◌≡◌, inl, inr, ⊎_elim, ℕ, ◌+◌, List, Option, Some, None, refl, sym, ap, subst}
-use Rattle.epoch_journal.specs.Epochs.{Keeps}
-use Rattle.gate_journal.specs.declared.journal.JournalState.{JournalState}
-use Rattle.turn_defs.specs.Turns.{Note, land}
-use Rattle.site_node.specs.States.{written}
+use Rattle.registry_server.specs.Terms.{JournalState, Keeps, Note, land, written}
 use Rattle.registry_server.specs.Registrars.{SiteKept, RegistrarView, server_rows}
 use Rattle.registry_server.specs.Node.{ServerState, StandsAt, IsOpenAt, KeptOn, OnDisk}
 

@@ -1,20 +1,10 @@
 -- A server over its disk, beside the states that its entries lead through.
 use Rattle.std.specs.Prelude.{◌≡◌, ◌⊎◌, ℕ, ◌+◌, ◌==◌, List, Bool, true, false, if◌then◌else◌, Option, Some, None, option_map}
-use Rattle.ballot_core.specs.declared.TheConstants.{LAST_EPOCH}
-use Rattle.epoch_journal.specs.Epochs.{epoch_record, Keeps, KeepsOr}
-use Rattle.gate_journal.specs.declared.journal.JournalState.{JournalState}
-use Rattle.gate_journal.specs.declared.journal.JournalState.TheVariants.{Ready}
+use Rattle.registry_server.specs.Terms.{AreSpelled, Epoch, Input, JournalState, Keeps, KeepsOr, LAST_EPOCH, MayHold, Reads, Ready, ServerKept, ServerLive, Setting, Start, State, epoch_record, land, land_server, row}
 use Rattle.air_bus.specs.declared.entry.Input.{Input as Bytes}
 use Rattle.air_bus.specs.declared.entry.Input.TheVariants as bytes
-use Rattle.turn_defs.specs.declared.node.Input.{Input}
-use Rattle.turn_defs.specs.declared.node.Input.TheVariants.{Start}
-use Rattle.turn_defs.specs.Setting.{Setting}
-use Rattle.turn_defs.specs.Turns.{Epoch, land}
-use Rattle.site_node.specs.Bytes.{AreSpelled, Reads}
-use Rattle.site_node.specs.States.{State, row, MayHold}
 use Rattle.site_node.specs.declared.kind.NodeFault.{NodeFault}
 use Rattle.site_node.specs.declared.kind.NodeFault.TheVariants as fault
-use Rattle.turn_defs.specs.Server.{ServerKept, ServerLive, land_server}
 use Rattle.registry_server.specs.Cores.{Decided, note_of}
 use Rattle.registry_server.specs.Registrars.{SiteKept, RegistrarView, ServesSite, Knows, IsNextNote, IsSpelledTurn, server_rows}
 use Rattle.registry_server.specs.declared.server_core.ServerCore.{ServerCore}

@@ -1,13 +1,6 @@
 -- A server that is up or down, as its rows see it.
 use Rattle.std.specs.Prelude.{◌≡◌, ◌⊎◌, ℕ, ◌+◌, ◌<◌, Bool, true, false, Option, Some, None, option_map}
-use Rattle.ballot_core.specs.declared.TheConstants.{LAST_EPOCH}
-use Rattle.turn_defs.specs.declared.node.Input.{Input}
-use Rattle.turn_defs.specs.declared.node.Input.TheVariants.{Start}
-use Rattle.turn_defs.specs.Setting.{Setting}
-use Rattle.turn_defs.specs.Nodes.{Addressed}
-use Rattle.turn_defs.specs.Turns.{Out, land}
-use Rattle.site_node.specs.States.{Rows}
-use Rattle.turn_defs.specs.Server.{ServerKept, ServerLive, land_server, server_start, server_turn}
+use Rattle.registry_server.specs.Terms.{Addressed, Input, LAST_EPOCH, Out, Rows, ServerKept, ServerLive, Setting, Start, land, land_server, server_start, server_turn}
 use Rattle.registry_server.specs.Cores.{Stands, Serves, Begins, changed, note_of, site_of}
 use Rattle.registry_server.specs.Spelled.{IsSpelledPlan, IsSpelledLive}
 use Rattle.registry_server.specs.declared.server_core.ServerCore.{ServerCore}

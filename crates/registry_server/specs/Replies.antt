@@ -1,11 +1,6 @@
 -- Replies to inserts with their answers.
 use Rattle.std.specs.Prelude.{ℕ, List, [], ◌∷◌, ◌++◌}
-use Rattle.registry_state.specs.declared.Insert.{Insert}
-use Rattle.registry_state.specs.declared.Answer.{Answer}
-use Rattle.turn_defs.specs.declared.packet.Packet.{Packet}
-use Rattle.turn_defs.specs.declared.node.To.{To}
-use Rattle.turn_defs.specs.Setting.{Setting}
-use Rattle.turn_defs.specs.Server.{reply}
+use Rattle.registry_server.specs.Terms.{Answer, Insert, Packet, Setting, To, reply}
 
 abbrev pub each_reply : Setting → ℕ → List (Insert × Answer) → List (To × Packet)
 each_reply g site [] = []

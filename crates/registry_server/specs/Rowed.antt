@@ -1,17 +1,8 @@
 -- Rows at one shard: when they are taken, and in which form their functions give them.
 use Rattle.std.specs.Prelude.{◌≡◌, ℕ, suc, ◌<◌, ◌++◌, ◌∷◌, [], ◌&&◌, ◌==◌, List, if◌then◌else◌, Option, Some, None, ⊤}
-use Rattle.ballot_core.specs.declared.Ballot.{Ballot}
+use Rattle.registry_server.specs.Terms.{Ballot, Batch, Out, Packet, Place, Proposer, ServerKept, ServerLive, Setting, ShardState, To, ballot_of, idle, learns, may_propose, proposes, replies, shard, shards, to_replicas, with_shard}
 use Rattle.ballot_core.specs.Ballots.{is_same as same_ballot}
-use Rattle.paxos_defs.specs.declared.Place.{Place}
-use Rattle.registry_state.specs.declared.Batch.{Batch}
-use Rattle.paxos_proposer.specs.declared.proposer.Proposer.{Proposer}
-use Rattle.paxos_proposer.specs.Proposals.{ballot_of}
-use Rattle.turn_defs.specs.declared.packet.Packet.{Packet}
 use Rattle.turn_defs.specs.declared.packet.Packet.TheVariants as packet
-use Rattle.turn_defs.specs.declared.node.To.{To}
-use Rattle.turn_defs.specs.Setting.{Setting, shard, shards}
-use Rattle.turn_defs.specs.Turns.{Out, idle}
-use Rattle.turn_defs.specs.Server.{ServerKept, ServerLive, ShardState, may_propose, proposes, replies, learns, to_replicas, with_shard}
 use Rattle.registry_server.specs.Stations.{setting}
 use Rattle.registry_server.specs.ShardStates.{IsShard, FitsStep}
 use Rattle.registry_server.specs.Cores.{Gives}

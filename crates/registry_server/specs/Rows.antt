@@ -1,22 +1,10 @@
 -- Worked turns of the server of site 0, on one insert, which is of shard 3.
 use Rattle.std.specs.Prelude.{◌≡◌, ℕ, ◌-◌, ◌^◌, Bool, true, false, ◌==◌, List, [], ◌∷◌, if◌then◌else◌, Option, Some, None}
-use Rattle.ballot_core.specs.declared.Ballot.{Ballot}
-use Rattle.paxos_defs.specs.declared.Place.{Place}
-use Rattle.paxos_defs.specs.Attempts.{Phase, nobody}
-use Rattle.paxos_defs.specs.Attempts.Phase.{Promising, Accepting}
-use Rattle.registry_state.specs.declared.Insert.{Insert}
-use Rattle.registry_state.specs.declared.Batch.{Batch}
+use Rattle.registry_server.specs.Terms.{Accepting, Ballot, Batch, Deliver, Epoch, Input, Insert, Only, Out, Own, Packet, Phase, Place, Promising, Proposal, ServerKept, ServerLive, ShardState, Tick, To, empty_shard, nobody, server_at_rest, server_start, server_turn, server_unfinished, server_wants}
 use Rattle.registry_state.specs.declared.Answer.TheVariants.{Granted, Duplicate}
-use Rattle.turn_defs.specs.declared.packet.Packet.{Packet}
 use Rattle.turn_defs.specs.declared.packet.Packet.TheVariants as packet
 use Rattle.turn_defs.specs.declared.node.Node.TheVariants.{Server, Replica, Joiner}
-use Rattle.turn_defs.specs.declared.node.To.{To}
-use Rattle.turn_defs.specs.declared.node.To.TheVariants.{Only}
-use Rattle.turn_defs.specs.declared.node.Input.{Input}
-use Rattle.turn_defs.specs.declared.node.Input.TheVariants.{Own, Tick, Deliver}
-use Rattle.turn_defs.specs.Turns.{Epoch, Out}
 use Rattle.turn_defs.specs.Rows.{worked, worked_late, token, insert, one_batch}
-use Rattle.turn_defs.specs.Server.{ServerKept, ServerLive, ShardState, Proposal, empty_shard, server_start, server_turn, server_wants, server_unfinished, server_at_rest}
 
 abbrev pub kept : ServerKept
 kept = record { epoch = 1 }

@@ -1,21 +1,8 @@
 -- A shard as the state that it stands for.
 use Rattle.std.specs.Prelude.{◌≡◌, ℕ, ◌<◌, ◌≤◌, ◌&&◌, ◌||◌, not, ◌++◌, ◌∷◌, [], Bool, true, false, List, length, get_or, nat_lt, nat_le, if◌then◌else◌, Option, Some, None, option_map, is_some, IfSome, ⊤}
-use Rattle.turn_defs.specs.declared.limits.TheConstants.{LAST_SLOT}
-use Rattle.registry_state.specs.declared.TheConstants.{MOST_WAITING}
-use Rattle.ballot_core.specs.declared.Ballot.{Ballot}
-use Rattle.registry_state.specs.declared.Insert.{Insert}
-use Rattle.registry_state.specs.declared.Batch.{Batch}
-use Rattle.registry_state.specs.declared.Answer.{Answer}
-use Rattle.registry_state.specs.LookBack.{bound_of}
-use Rattle.id_expiry.specs.Timed.{Knows, room}
-use Rattle.batch_queue.specs.Queue.{waiting, room as places}
+use Rattle.registry_server.specs.Terms.{Accepting, Answer, Ballot, Batch, Ended, Insert, Knows, LAST_SLOT, MOST_WAITING, Phase, Promising, Proposal, Proposer, Setting, ShardState, ballot_of, bound_of, is_below_limit, learns, may_propose, on_accepted, on_promise, own_of, phase_of, queued, room, shard_unfinished, waiting}
+use Rattle.batch_queue.specs.Queue.{room as places}
 use Rattle.batch_queue.specs.Waiting.{answered, replays, IsUnanswered}
-use Rattle.paxos_defs.specs.Attempts.{Phase, on_promise, on_accepted}
-use Rattle.paxos_defs.specs.Attempts.Phase.{Promising, Accepting, Ended}
-use Rattle.paxos_proposer.specs.declared.proposer.Proposer.{Proposer}
-use Rattle.paxos_proposer.specs.Proposals.{ballot_of, own_of, phase_of}
-use Rattle.turn_defs.specs.Setting.{Setting}
-use Rattle.turn_defs.specs.Server.{Proposal, ShardState, queued, learns, may_propose, shard_unfinished, is_below_limit}
 use Rattle.registry_server.specs.declared.shard.Shard.{Shard}
 use Rattle.registry_server.specs.declared.shard.Step.{Step}
 use Rattle.registry_server.specs.declared.shard.Step.TheVariants.{Queue, Propose, Promise, Accept, Learn, Hold}

@@ -1,14 +1,8 @@
 -- What a server knows has spellings, so what it sends has them.
 use Rattle.std.specs.Prelude.{ℕ, ◌^◌, ◌<◌, ◌≤◌, length, IfSome}
 use Rattle.time_shards.specs.declared.TheConstants.{MAX_SHARDS}
-use Rattle.registry_state.specs.declared.TheConstants.{MOST_INSERTS}
-use Rattle.list_words.specs.Lists.{Each}
-use Rattle.registry_state.specs.declared.Batch.{Batch}
+use Rattle.registry_server.specs.Terms.{Accepting, Batch, Each, Ended, MOST_INSERTS, Phase, Promising, Proposal, ServerKept, ServerLive, Setting, ShardState, shards}
 use Rattle.turn_defs.specs.Spellings.{IsInsert, IsBallot, IsBatch, IsPrior}
-use Rattle.paxos_defs.specs.Attempts.{Phase}
-use Rattle.paxos_defs.specs.Attempts.Phase.{Promising, Accepting, Ended}
-use Rattle.turn_defs.specs.Setting.{Setting, shards}
-use Rattle.turn_defs.specs.Server.{ServerKept, ServerLive, ShardState, Proposal}
 
 abbrev pub IsSpelledPhase : Phase Batch → Type 0
 IsSpelledPhase (Promising marks best) = IsPrior best

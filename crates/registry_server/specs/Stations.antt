@@ -1,15 +1,8 @@
 -- What is fixed for a server, as a setting; packets with their receivers.
 use Rattle.std.specs.Prelude.{List, map, Option, Some, None}
 use Rattle.std.specs.Borrow.{Bor}
-use Rattle.ballot_core.specs.declared.Ballot.{Ballot}
-use Rattle.paxos_defs.specs.declared.Place.{Place}
-use Rattle.registry_state.specs.declared.Batch.{Batch}
-use Rattle.turn_defs.specs.declared.packet.Packet.{Packet}
+use Rattle.registry_server.specs.Terms.{Ballot, Batch, Node, Only, Packet, Place, Setting, To}
 use Rattle.turn_defs.specs.declared.packet.Packet.TheVariants.{Prepare, Accept}
-use Rattle.turn_defs.specs.declared.node.Node.{Node}
-use Rattle.turn_defs.specs.declared.node.To.{To}
-use Rattle.turn_defs.specs.declared.node.To.TheVariants.{Only}
-use Rattle.turn_defs.specs.Setting.{Setting}
 use Rattle.registry_server.specs.declared.station.Station.{Station}
 
 -- the setting with the server's config

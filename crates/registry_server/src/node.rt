@@ -1,9 +1,6 @@
 // The registry server over its disk.
 ghost use Rattle.std.specs.Prelude.{◌≡◌, ◌≤◌, true, false, None, ◌<◌, Some, Option, option_map, List, ℕ, is_some, is_err, IsTrue, IfOk, IfErr, OnOk, OnErr, OnSome, ◌+◌};
-ghost use Rattle.registry_state.specs.declared.TheConstants.{MOST_INSERTS};
-ghost use Rattle.ballot_core.specs.declared.TheConstants.{LAST_EPOCH};
-ghost use Rattle.paxos_defs.specs.declared.TheConstants.{MOST_REPLICAS};
-ghost use Rattle.gate_journal.specs.declared.journal.JournalState.TheVariants.{Ready};
+ghost use Rattle.registry_server.specs.Terms.{Fits, IsInput, IsLeft, Keeps, LAST_EPOCH, Leads, MOST_INSERTS, MOST_REPLICAS, Ready, Says, ServerKept, ServerLive, Setting, land, land_server, row_of, server_at_rest, server_unfinished, server_wants, state_phase};
 ghost use Rattle.gate_journal.specs.Disk.{HasRoom};
 ghost use Rattle.registry_server.specs.Registrars.{MayRaise, SiteKept, Knows, IsNextNote, IsRow, Makes, server_rows};
 ghost use Rattle.registry_server.specs.Node.{is_spent_at, StandsAt, Holds, HoldsOr, OnDiskOr, recorded, IsReady, IsNotPrepared, down_over, ServerState, KeptOn, spent_at};
@@ -12,13 +9,7 @@ ghost use Rattle.outside.specs.Faults.{Rose};
 ghost use Rattle.outside.specs.Plans.{MeetsPlan, AtMost};
 ghost use Rattle.gate_journal.specs.Growth.{Continues};
 ghost use Rattle.gate_journal.specs.Opening.{IsOpened};
-ghost use Rattle.epoch_journal.specs.Epochs.{IsLeft, Keeps};
-ghost use Rattle.turn_defs.specs.Setting.{Setting};
-ghost use Rattle.turn_defs.specs.Turns.{land};
-ghost use Rattle.site_node.specs.Bytes.{IsInput};
-ghost use Rattle.site_node.specs.States.{Fits, row_of, Leads, state_phase, Says};
 ghost use Rattle.site_node.specs.Faults.{was_shut_out, HasFailed, IsOfRestart, IsWhole, of_two};
-ghost use Rattle.turn_defs.specs.Server.{ServerKept, ServerLive, land_server, server_at_rest, server_unfinished, server_wants};
 ghost use Rattle.registry_server.specs.Cores.{note_of};
 ghost use Rattle.registry_server.specs.declared.turn.ServerNote.{ServerNote};
 ghost use Rattle.site_node.specs.Paths.{begins as begins_by, phase_led};

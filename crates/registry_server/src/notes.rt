@@ -1,7 +1,6 @@
 // Notes and their records.
 ghost use Rattle.std.specs.Prelude.{◌≡◌, IfOk, option_map};
-ghost use Rattle.turn_defs.specs.Turns.{land};
-ghost use Rattle.turn_defs.specs.Server.{land_server};
+ghost use Rattle.registry_server.specs.Terms.{land, land_server};
 ghost use Rattle.registry_server.specs.Cores.{note_of};
 ghost use Rattle.registry_server.specs.Node.{recorded};
 

@@ -1,8 +1,7 @@
 // What a server sends, behind what it sends already.
 ghost use Rattle.std.specs.Prelude.{◌≡◌, ◌++◌, ◌∷◌, [], IfOk, OnOk};
-ghost use Rattle.turn_defs.specs.Setting.{Setting};
+ghost use Rattle.registry_server.specs.Terms.{Setting, reply, to_replicas};
 ghost use Rattle.turn_defs.specs.declared.packet.Packet.TheVariants as packet;
-ghost use Rattle.turn_defs.specs.Server.{to_replicas, reply};
 ghost use Rattle.registry_server.specs.Stations.{setting, sent, request};
 ghost use Rattle.registry_server.specs.Replies.{each_reply};
 

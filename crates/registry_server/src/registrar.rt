@@ -1,16 +1,11 @@
 // A server that is up or down, and what it knows has spellings.
 ghost use Rattle.std.specs.Prelude.{◌≡◌, ◌<◌, ◌≤◌, Option, All, IfOk, true, false};
-ghost use Rattle.turn_defs.specs.Server.{ServerKept, ServerLive};
+ghost use Rattle.registry_server.specs.Terms.{Fits, IsInput, Node, Packet, ServerKept, ServerLive, Setting, row_of};
 ghost use Rattle.registry_server.specs.Registrars.{MayRaise, SiteKept, Knows, IsNextNote, IsRow, Makes, IsSpelledTurn, landed, server_rows};
 ghost use Rattle.registry_server.specs.Cores.{Carries, CarriesStart, MayStart, Stands, Serves, Decided, site_of};
 ghost use Rattle.turn_defs.specs.declared.node.Input.{Input as Given};
 ghost use Rattle.turn_defs.specs.declared.node.Input.TheVariants as given;
 ghost use Rattle.turn_defs.specs.Packets.{IsPacket};
-ghost use Rattle.turn_defs.specs.declared.packet.Packet.{Packet};
-ghost use Rattle.turn_defs.specs.declared.node.Node.{Node};
-ghost use Rattle.site_node.specs.Bytes.{IsInput};
-ghost use Rattle.site_node.specs.States.{Fits, row_of};
-ghost use Rattle.turn_defs.specs.Setting.{Setting};
 
 use crate::ServerCore;
 use crate::station::Station;

@@ -1,10 +1,6 @@
 // The rows of a server's turns that look at one shard. Each gives the turn of the row, and says where none applies.
 ghost use Rattle.std.specs.Prelude.{◌≡◌, ◌++◌, ◌-◌, ◌<◌, ◌^◌, IfOk, OnOk, Some, option_map};
-ghost use Rattle.turn_defs.specs.declared.limits.TheConstants.{LAST_SLOT};
-ghost use Rattle.registry_state.specs.LookBack.{replay};
-ghost use Rattle.turn_defs.specs.Setting.{Setting};
-ghost use Rattle.paxos_proposer.specs.Proposals.{prior_of, promise_turn};
-ghost use Rattle.turn_defs.specs.Server.{ServerKept, ServerLive, claimed, gets_promise, gets_accepted, gets_nack, gets_chosen, server_gets, from_replica, again};
+ghost use Rattle.registry_server.specs.Terms.{LAST_SLOT, ServerKept, ServerLive, Setting, again, claimed, from_replica, gets_accepted, gets_chosen, gets_nack, gets_promise, prior_of, promise_turn, replay, server_gets};
 ghost use Rattle.registry_server.specs.Stations.{setting, sent};
 ghost use Rattle.registry_server.specs.ShardStates.{IsShard};
 ghost use Rattle.registry_server.specs.Cores.{Gives};

@@ -1,6 +1,6 @@
 // The core: its shards, and which of them a turn is about.
 ghost use Rattle.std.specs.Prelude.{◌≡◌, length};
-ghost use Rattle.ballot_core.specs.declared.TheConstants.{LAST_EPOCH};
+ghost use Rattle.registry_server.specs.Terms.{LAST_EPOCH};
 ghost use Rattle.time_shards.specs.Shards.{shard_count};
 
 use crate::notes::epoch_after;

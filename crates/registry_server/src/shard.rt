@@ -1,10 +1,7 @@
 // One shard of a server, and what a kept turn does to it.
 ghost use Rattle.std.specs.Prelude.{◌≡◌, ◌<◌, ◌≤◌, length, true, false};
-ghost use Rattle.turn_defs.specs.declared.limits.TheConstants.{LAST_SLOT};
-ghost use Rattle.id_expiry.specs.Timed.{room};
+ghost use Rattle.registry_server.specs.Terms.{LAST_SLOT, Setting, ShardState, empty_shard, room};
 ghost use Rattle.batch_queue.specs.Queue.{room as places};
-ghost use Rattle.turn_defs.specs.Setting.{Setting};
-ghost use Rattle.turn_defs.specs.Server.{ShardState, empty_shard};
 ghost use Rattle.registry_server.specs.Stations.{setting};
 ghost use Rattle.registry_server.specs.ShardStates.{IsShard, FitsStep, IsUnknown, TellsAnswered, stepped, passes, says};
 

@@ -1,6 +1,6 @@
 // All shards of a server.
 ghost use Rattle.std.specs.Prelude.{◌≡◌, ℕ, length, false, IfOk};
-ghost use Rattle.turn_defs.specs.Server.{ShardState, empty_shard};
+ghost use Rattle.registry_server.specs.Terms.{ShardState, empty_shard};
 ghost use Rattle.registry_server.specs.ShardStates.{EachStands};
 
 use crate::shard::Shard;

@@ -1,9 +1,6 @@
 // What is fixed for a server.
 ghost use Rattle.std.specs.Prelude.{◌≡◌, ◌≤◌};
-ghost use Rattle.registry_state.specs.declared.TheConstants.{MOST_INSERTS};
-ghost use Rattle.paxos_defs.specs.declared.TheConstants.{MOST_REPLICAS};
-ghost use Rattle.turn_defs.specs.Setting.{Setting};
-ghost use Rattle.turn_defs.specs.Server.{is_own_joiner};
+ghost use Rattle.registry_server.specs.Terms.{MOST_INSERTS, MOST_REPLICAS, Setting, is_own_joiner};
 
 use std::alloc::Global;
 use turn_defs::Config;

@@ -1,6 +1,5 @@
 -- What an acceptor knows after a note more, and its turns as rows.
-use Rattle.std.proofs.Common.{◌≡◌, List, [], ◌∷◌, ◌++◌, Option, sym, ap, ◌∙◌, arith}
-use Rattle.std.specs.Prelude.{option_map}
+use Rattle.std.proofs.Common.{◌≡◌, List, [], ◌∷◌, ◌++◌, Option, sym, ap, ◌∙◌, arith, option_map}
 use Rattle.replica_node.proofs.Words.{map-append, Batch, Place, Vote, promise, acceptance, cell_noted, ReplicaNote, Promised, Accepted, Acceptor, place_of, note_view, note_for, cell_with, BallotNote, Voted, Setting, Packet, Node, Turn, ReplicaKept, cell_at, note_at, land_replica, says, IsRow, Knows, noted, kept_of}
 use Rattle.paxos_acceptor.specs.Cells as cells
 

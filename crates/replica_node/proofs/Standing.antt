@@ -1,6 +1,5 @@
 -- What a replica over its disk stands for.
-use Rattle.std.proofs.Common.{◌≡◌, ◌⊎◌, inl, inr, ⊎_elim, ℕ, ◌+◌, ◌-◌, ◌^◌, ◌≤◌, min, Bool, true, false, List, [], ◌∷◌, ◌++◌, length, Option, Some, None, refl, sym, ap, ◌∙◌, subst, arith, length-append}
-use Rattle.std.specs.Prelude.{All, map, option_map, Result}
+use Rattle.std.proofs.Common.{◌≡◌, ◌⊎◌, inl, inr, ⊎_elim, ℕ, ◌+◌, ◌-◌, ◌^◌, ◌≤◌, min, Bool, true, false, List, [], ◌∷◌, ◌++◌, length, Option, Some, None, refl, sym, ap, ◌∙◌, subst, arith, length-append, All, map, option_map, Result}
 use Rattle.replica_node.proofs.Words.{length-map, each_push, result_unwrap_or, map-append, All-head, All-tail, All-nil, All-cons, Each, Only, ReplicaNote, note_view, note, IsNote, records, StandsFor, IsOldOrNew, IsOpened, JournalState, Ready, Bytes, Setting, BallotNote, Note, Voted, land, record_of, Config, ReplicaKept, land_replica, noted, kept_of, VoterView, KnowsAs, counted, Holds, OnDiskOr, IsRecord, StandsAt, ReplicaState, IsVoted, vote_record, records_of, IsOfNotes, IsRowNote, views_ok}
 use Rattle.paxos_defs.specs.Notes.Note.{Promised, Accepted}
 use Rattle.paxos_acceptor.specs.declared.notes.ReplicaNote.TheVariants as replica

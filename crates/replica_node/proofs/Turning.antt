@@ -1,6 +1,5 @@
 -- A turn of a replica over its disk, and its restart, as the states' entries.
-use Rattle.std.proofs.Common.{◌≡◌, ◌==◌, cond, not, inl, inr, ⊎_elim, ℕ, ◌-◌, ◌^◌, ◌≤◌, true, false, List, [], length, Option, Some, None, refl, sym, ap, ◌∙◌, subst, arith}
-use Rattle.std.specs.Prelude.{Bool, All, map, is_some, option_map}
+use Rattle.std.proofs.Common.{◌≡◌, ◌==◌, cond, not, inl, inr, ⊎_elim, ℕ, ◌-◌, ◌^◌, ◌≤◌, true, false, List, [], length, Option, Some, None, refl, sym, ap, ◌∙◌, subst, arith, Bool, All, map, is_some, option_map}
 use Rattle.replica_node.proofs.Words.{ends_done, ends_idle, eq-eqb, ne_eqb, Each, Only, ReplicaNote, note, IsNote, StandsFor, IsOldOrNew, IsOpened, JournalState, Ready, Bytes, Begin, End, Stop, Input, land, AreSpelled, Reads, IsJunk, Leads, row, written, closes, Config, ReplicaKept, land_replica, noted, IsRow, kept_of, Turn, VoterView, Holds, HoldsOr, StandsAt, ReplicaState, IsVoted, records_of, replica_rows, KeptOn, IsOfNotes, row_landed_ok, input_ok, row_ok}
 use Rattle.replica_node.specs.Node.{Knows}
 use Rattle.replica_node.proofs.Standing.{of_notes, Apart, down_stands, same_kept, landed_kept, left_of, old_count, new_count, noted_bytes, open_bytes, landed_records, moved}

@@ -1,6 +1,5 @@
 -- What a voter knows, and the rows of its turns.
-use Rattle.std.proofs.Common.{◌≡◌, Bool, true, false, List, Option, Some, subst, arith}
-use Rattle.std.specs.Prelude.{IfOk, Result, Ok, Err}
+use Rattle.std.proofs.Common.{◌≡◌, Bool, true, false, List, Option, Some, subst, arith, IfOk, Result, Ok, Err}
 use Rattle.replica_node.proofs.Words.{ReplicaNote, Packet, Node, Input, Start, Deliver, IsPacket, Setting, IsInput, ReplicaKept, replica_start, replica_gets, IsRow, Stands, ReplicaCore, Turn, VoterView, KnowsAs, Fits, replica_rows}
 use Rattle.site_node.specs.States.{row_of}
 use Rattle.replica_node.specs.Node.{Knows}

@@ -1,17 +1,9 @@
 -- A replica's core beside the rows of its turns: what it stands for, what an input carries, what a turn says and does.
 use Rattle.std.specs.Prelude.{◌≡◌, ◌<◌, Option, option_map}
-use Rattle.paxos_defs.specs.declared.Place.{Place}
+use Rattle.replica_node.specs.Terms.{Deliver, Input, Note, Out, Own, Place, ReplicaKept, ReplicaNote, Setting, Start, Tick, Voted, cell_at, kept_of, note_view, replica_start, replica_turn, room}
 use Rattle.paxos_acceptor.specs.declared.acceptor.Acceptor.{Acceptor}
-use Rattle.paxos_acceptor.specs.declared.notes.ReplicaNote.{ReplicaNote}
 use Rattle.paxos_acceptor.specs.Cells as cells
-use Rattle.paxos_acceptor.specs.Cells.{note_view, room}
-use Rattle.turn_defs.specs.declared.node.Input.{Input}
-use Rattle.turn_defs.specs.declared.node.Input.TheVariants.{Start, Own, Tick, Deliver}
-use Rattle.turn_defs.specs.Setting.{Setting}
 use Rattle.turn_defs.specs.Nodes.{Addressed}
-use Rattle.turn_defs.specs.Turns.{Note, Voted, Out}
-use Rattle.site_node.specs.Replicas.{kept_of}
-use Rattle.turn_defs.specs.Replica.{ReplicaKept, cell_at, replica_start, replica_turn}
 use Rattle.replica_node.specs.declared.input.ReplicaInput.{ReplicaInput}
 use Rattle.replica_node.specs.declared.input.ReplicaInput.TheVariants as input
 use Rattle.replica_node.specs.declared.turn.Change.{Change}

@@ -1,11 +1,7 @@
 -- What a replica's disk may hold, whatever a stop leaves of it.
 use Rattle.std.proofs.Common.{inl, inr, ⊎_elim, ℕ, List, Option, Some, None, refl, sym, subst}
-use Rattle.gate_journal.specs.Gate.{StandsFor}
-use Rattle.gate_journal.specs.declared.journal.JournalState.{JournalState}
-use Rattle.site_node.specs.States.{written}
-use Rattle.turn_defs.specs.declared.config.Config.{Config}
+use Rattle.replica_node.specs.Terms.{Config, JournalState, KeptOn, OnDisk, ReplicaState, StandsFor, replica_rows, written}
 use Rattle.replica_node.specs.Node.{VoterView, StandsAt}
-use Rattle.site_node.specs.Replicas.{ReplicaState, KeptOn, OnDisk, replica_rows}
 
 -- what the state keeps, as it is
 pub kept_now : (s : ReplicaState) (c : List ℕ) → OnDisk s.kept c → KeptOn s c

@@ -1,3 +1,4 @@
+pub mod Terms
 pub mod Core
 pub mod Rows
 pub mod Node

@@ -1,20 +1,7 @@
 -- A replica over its disk, beside the states that its entries lead through.
 use Rattle.std.specs.Prelude.{◌≡◌, ◌⊎◌, ◌-◌, ◌^◌, min, ℕ, List, [], ◌∷◌, ◌++◌, length, Bool, true, false, Option, Some, None, IfSome, OnSome, option_map}
-use Rattle.list_words.specs.Lists.{Each}
-use Rattle.paxos_acceptor.specs.declared.notes.ReplicaNote.{ReplicaNote}
-use Rattle.packet_codec.specs.Notes.{note, IsNote}
-use Rattle.gate_journal.specs.Gate.{records, StandsFor, IsOldOrNew}
-use Rattle.gate_journal.specs.declared.journal.JournalState.{JournalState}
-use Rattle.gate_journal.specs.declared.journal.JournalState.TheVariants.{Ready}
+use Rattle.replica_node.specs.Terms.{AreSpelled, Config, Each, Input, IsNote, IsNoted, IsOldOrNew, IsVoted, JournalState, OnDisk, Reads, Ready, ReplicaKept, ReplicaNote, ReplicaState, Setting, StandsFor, kept_of, land, land_replica, note, records, records_of, replica_rows, row, written}
 use Rattle.air_bus.specs.declared.entry.Input.{Input as Bytes}
-use Rattle.turn_defs.specs.declared.node.Input.{Input}
-use Rattle.turn_defs.specs.Setting.{Setting}
-use Rattle.turn_defs.specs.Turns.{land}
-use Rattle.site_node.specs.Bytes.{IsNoted, AreSpelled, Reads}
-use Rattle.site_node.specs.States.{row, written}
-use Rattle.turn_defs.specs.declared.config.Config.{Config}
-use Rattle.site_node.specs.Replicas.{ReplicaState, IsVoted, records_of, OnDisk, kept_of, replica_rows}
-use Rattle.turn_defs.specs.Replica.{ReplicaKept, land_replica}
 use Rattle.replica_node.specs.Core.{Stands, GoesOn, HasRoomIn, noted}
 use Rattle.replica_node.specs.declared.turn.Turn.{Turn}
 use Rattle.replica_node.specs.declared.turn.Change.{Change}

@@ -1,17 +1,12 @@
 -- Worked turns of a replica.
 use Rattle.std.specs.Prelude.{◌≡◌, ℕ, List, [], ◌∷◌, Some, None}
-use Rattle.ballot_core.specs.declared.Ballot.{Ballot}
-use Rattle.paxos_defs.specs.declared.Place.{Place}
+use Rattle.replica_node.specs.Terms.{Ballot, BallotNote, Batch, Deliver, Out, Own, Place, ReplicaKept, Tick, Voted, idle, replica_start, replica_turn}
 use Rattle.paxos_defs.specs.Notes.Note.{Promised, Accepted}
-use Rattle.registry_state.specs.declared.Batch.{Batch}
 use Rattle.turn_defs.specs.declared.packet.Packet.{Packet}
 use Rattle.turn_defs.specs.declared.packet.Packet.TheVariants as packet
 use Rattle.turn_defs.specs.declared.node.Node.TheVariants.{Server}
 use Rattle.turn_defs.specs.declared.node.To.TheVariants.{Only}
-use Rattle.turn_defs.specs.declared.node.Input.TheVariants.{Own, Tick, Deliver}
-use Rattle.turn_defs.specs.Turns.{BallotNote, Voted, Out, idle}
 use Rattle.turn_defs.specs.Rows.{one_batch}
-use Rattle.turn_defs.specs.Replica.{ReplicaKept, replica_start, replica_turn}
 
 abbrev pub place : Place
 place = record { shard = 3; slot = 0 }

@@ -3,14 +3,9 @@ use Rattle.std.proofs.Common.{rules, ◌≡◌, ◌≤◌, ℕ, ◌+◌, List, [
 use Rattle.std.proofs.Props.{props}
 use Rattle.std.specs.Coded.{×_prop, Π_prop, →_prop, Unit-prop}
 use Rattle.std.specs.Prelude.{All}
-use Rattle.ballot_core.specs.declared.Ballot.{Ballot}
-use Rattle.list_words.specs.Lists.{Each}
+use Rattle.replica_node.specs.Terms.{Ballot, Batch, Each, IsNote, ReplicaNote, note, place_of}
 use Rattle.packet_codec.proofs.NoteParts.{note_room}
-use Rattle.packet_codec.specs.Notes.{note, IsNote}
-use Rattle.paxos_acceptor.specs.Cells.{place_of}
-use Rattle.paxos_acceptor.specs.declared.notes.ReplicaNote.{ReplicaNote}
 use Rattle.paxos_acceptor.specs.declared.notes.ReplicaNote.TheVariants.{Accepted, Promised}
-use Rattle.registry_state.specs.declared.Batch.{Batch}
 use Rattle.registry_state.specs.declared.Insert.{Insert}
 use Rattle.turn_defs.specs.Spellings.{ballot, batch, place, IsInsert}
 

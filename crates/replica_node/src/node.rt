@@ -1,26 +1,17 @@
 // The replica over its disk.
 ghost use Rattle.std.specs.Prelude.{◌≡◌, None, ◌≤◌, ◌+◌, false, true, Some, Option, List, ℕ, is_some, is_err, option_map, length, IsTrue, IfOk, IfErr, IfSome, OnOk, OnErr};
-ghost use Rattle.gate_journal.specs.declared.journal.JournalState.TheVariants.{Ready};
-ghost use Rattle.gate_journal.specs.declared.frame.TheConstants.{MAX_PAYLOAD};
+ghost use Rattle.replica_node.specs.Terms.{Fits, IsInput, IsLeft, KeepsNotes, KeptOn, Leads, MAX_PAYLOAD, Ready, ReplicaKept, ReplicaNote, ReplicaState, Says, Setting, land, land_replica, replica_at_rest, replica_rows, replica_unfinished, replica_wants, row_of, state_phase};
 ghost use Rattle.gate_journal.specs.Disk.{HasRoom};
 ghost use Rattle.outside.specs.Disk.{Throughout};
 ghost use Rattle.outside.specs.Faults.{Rose};
 ghost use Rattle.outside.specs.Plans.{MeetsPlan, AtMost};
 ghost use Rattle.gate_journal.specs.Opening.{IsOpened};
 ghost use Rattle.gate_journal.specs.Growth.{Continues};
-ghost use Rattle.gate_journal.specs.Records.{IsLeft};
 ghost use Rattle.packet_codec.specs.Notes.{note as note_spelled};
-ghost use Rattle.turn_defs.specs.Setting.{Setting};
-ghost use Rattle.turn_defs.specs.Turns.{land};
-ghost use Rattle.site_node.specs.Bytes.{IsInput};
-ghost use Rattle.site_node.specs.States.{row_of, Fits, Leads, state_phase, Says};
 ghost use Rattle.site_node.specs.Faults.{was_shut_out, HasFailed, IsOfRestart, IsWhole, of_two};
-ghost use Rattle.turn_defs.specs.Replica.{ReplicaKept, land_replica, replica_at_rest, replica_unfinished, replica_wants};
 ghost use Rattle.replica_node.specs.Core.{noted, IsRow, GoesOn};
 ghost use Rattle.replica_node.specs.Votes.{IsOfNotes, spells};
-ghost use Rattle.paxos_acceptor.specs.declared.notes.ReplicaNote.{ReplicaNote};
 ghost use Rattle.replica_node.specs.Node.{StandsAt, Holds, HoldsOr, OnDiskOr, Knows, IsReady, down_over, never_spent};
-ghost use Rattle.site_node.specs.Replicas.{replica_rows, KeepsNotes, ReplicaState, KeptOn};
 ghost use Rattle.site_node.specs.Paths.{begins as begins_by, phase_led};
 ghost use Rattle.replica_node.specs.Kept.{kept_images};
 

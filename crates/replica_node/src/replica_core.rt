@@ -1,13 +1,9 @@
 // The replica's core: an acceptor, and packets in place of answers.
 ghost use Rattle.std.specs.Prelude.{◌≡◌, ◌<◌, ◌∷◌, [], IfOk, OnSome};
-ghost use Rattle.paxos_acceptor.specs.Cells.{room};
+ghost use Rattle.replica_node.specs.Terms.{ReplicaKept, Setting, accepts, cell_at, kept_of, land, land_replica, prepares, replica_at_rest, replica_gets, replica_start, replica_unfinished, replica_wants, room};
 ghost use Rattle.paxos_defs.specs.Turns.{on_accept, on_prepare};
 ghost use Rattle.registry_state.specs.Same.{same_batch};
-ghost use Rattle.turn_defs.specs.Setting.{Setting};
-ghost use Rattle.turn_defs.specs.Turns.{land};
-ghost use Rattle.turn_defs.specs.Replica.{ReplicaKept, accepts, cell_at, land_replica, prepares, replica_at_rest, replica_gets, replica_start, replica_unfinished, replica_wants};
 ghost use Rattle.replica_node.specs.Core.{Carries, GoesOn, HasRoomIn, IsRow, Stands, asked, noted, row_of};
-ghost use Rattle.site_node.specs.Replicas.{kept_of};
 ghost use Rattle.replica_node.specs.declared.turn.Change.TheVariants.{Stays};
 
 use crate::answers::{prepared, taken};

@@ -1,7 +1,7 @@
 // The notes that are kept on a disk.
 ghost use Rattle.std.specs.Prelude.{◌≡◌, ◌≤◌, length, option_map, All, IfOk, IfSome, IfNone};
-ghost use Rattle.gate_journal.specs.declared.frame.TheConstants.{MAX_PAYLOAD};
-ghost use Rattle.packet_codec.specs.Notes.{note as note_spelled, IsNote};
+ghost use Rattle.replica_node.specs.Terms.{IsNote, MAX_PAYLOAD};
+ghost use Rattle.packet_codec.specs.Notes.{note as note_spelled};
 ghost use Rattle.replica_node.specs.Votes.{IsNoVote};
 ghost use Rattle.replica_node.specs.VoteLaws.{notes_once};
 

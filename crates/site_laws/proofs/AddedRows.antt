@@ -1,11 +1,8 @@
 -- A row behind those of the topology that the disks keep.
 use Rattle.std.proofs.Common.{Some, refl, sym}
-use Rattle.photon_model.proofs.Words.{some_same, Setting, topology_of, WholeSound}
+use Rattle.site_laws.proofs.Words.{some_same, Setting, topology_of, WholeSound, ShardRow, with_row, RowKeepsWhole, Images, IsDisk, IsChoice, KeepsTopology, KeepsOf, KeepSound, IsSoundStore, SameRecords, HoldSameRecords, SameIsWhole, IsRowAdded, RowIsSound}
 use Rattle.outside.specs.declared.store.DiskName.TheVariants as name
-use Rattle.time_shards.specs.declared.ShardRow.{ShardRow}
-use Rattle.photon_model.specs.Adding.{with_row, RowKeepsWhole}
-use Rattle.site_laws.specs.Stores.{Bytes, Images, IsDisk, IsChoice, KeepsTopology, KeepsOf, KeepSound, IsSoundStore, SameRecords}
-use Rattle.site_laws.specs.StoreLaws.{HoldSameRecords, SameIsWhole, IsRowAdded, RowIsSound}
+use Rattle.site_laws.specs.Stores.{Bytes}
 use Rattle.site_laws.proofs.Keeping.{keeps_again}
 use Rattle.site_laws.proofs.Naming.{by_topology}
 use Rattle.site_laws.proofs.Opening.{still, earlier, were_sound, used_so}

@@ -1,14 +1,8 @@
 -- Rows send to nodes of the setting alone.
 use Rattle.std.proofs.Common.{◌≡◌, ℕ, ◌+◌, ◌<◌, true, List, [], ◌∷◌, ◌++◌, Option, Some, subst, arith}
 use Rattle.std.specs.Prelude.{nat_lt, ⊤}
-use Rattle.std.proofs.lemmas.Bool.{cond_both}
-use Rattle.photon_model.proofs.Words.{Each, at, Insert, Batch, Answer, Place, Phase, on_promise, on_accepted, Packet, Node, Dispatcher, Server, Replica, Joiner, To, Only, AnyJoiner, Input, Deliver, Setting, first_joiner, site_of_joiner, IsNode, IsTo, Addressed, Out, DispatcherKept, DispatcherLive, JoinerKept, JoinerLive, ServerKept, ServerLive, ShardState, Proposal, dispatcher_turn, joiner_turn, server_turn, to_replicas, is_own_joiner, replies, promised, accepted}
-use Rattle.photon_model.proofs.DispatcherRows.{each_packet as each_join}
-use Rattle.photon_model.proofs.JoinerRows.{each_packet}
-use Rattle.photon_model.proofs.ServerRows.{replicas_each, reply_each, replies_each, tick_each, every_row}
+use Rattle.site_laws.proofs.Words.{cond_both, Each, at, Insert, Batch, Answer, Place, Phase, on_promise, on_accepted, Packet, Node, Dispatcher, Server, Replica, Joiner, To, Only, AnyJoiner, Input, Deliver, Setting, first_joiner, site_of_joiner, IsNode, IsTo, Addressed, Out, DispatcherKept, DispatcherLive, JoinerKept, JoinerLive, ServerKept, ServerLive, ShardState, Proposal, dispatcher_turn, joiner_turn, server_turn, to_replicas, is_own_joiner, replies, promised, accepted, each_join, each_packet, replicas_each, reply_each, replies_each, tick_each, every_row, row_of, KeptOf, LiveOf, rows_of}
 use Rattle.turn_defs.specs.declared.packet.Packet.TheVariants as packet
-use Rattle.site_node.specs.States.{row_of}
-use Rattle.site_laws.specs.Kinds.{KeptOf, LiveOf, rows_of}
 
 module _ (g : Setting) where
   -- whoever it may go to is a node of the setting
@@ -85,6 +79,5 @@ module _ (g : Setting) where
   -- so do the nodes that were chosen for a row's packets
   pub all_right : (rows : List (To × Packet)) (ps : List (Node × Packet)) → Each GoesRight rows → Addressed g rows ps → Each (λ (p : Node × Packet). IsNode g p.0) ps
   all_right [] [] e a = tt
-  all_right [] (p ∷ ps) e a = absurd a
-  all_right (x ∷ xs) [] e a = absurd a
   all_right (x ∷ xs) (p ∷ ps) e a = (e.0 p.0 a.0.0, all_right xs ps e.1 a.1)
+  all_right _ _ e a = absurd a

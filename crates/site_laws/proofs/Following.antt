@@ -1,20 +1,10 @@
 -- From each front of what the bus kept, and of the model's run so far, to the next.
-use Rattle.std.proofs.Common.{◌≡◌, ◌≢◌, ◌⊎◌, inl, inr, ⊎_elim, ℕ, Bool, true, false, cond, ◌==◌, List, [], ◌∷◌, ◌++◌, map, Option, Some, None, refl, sym, ap, ◌∙◌, subst, append_assoc, eq-eqb, arith}
-use Rattle.std.specs.Prelude.{All}
-use Rattle.std.proofs.lemmas.Bool.{eqb-true, eqb-false}
-use Rattle.std.proofs.lemmas.List.Elements.{All-head, All-tail}
-use Rattle.photon_model.proofs.Words.{Mem, mem_left, mem_right, mem_split, each_at, some_same, Setting, IsNode, node_number, node_of, NumbersAreNodes, Packet, packet, IsPacket, Sent, Node, Input, Start, Own, Tick, Deliver, World, Entry, Disks, after, world_after, sends, WasSent, May, IsRun, opening}
+use Rattle.std.proofs.Common.{◌≡◌, ◌≢◌, ◌⊎◌, inl, inr, ⊎_elim, ℕ, Bool, true, false, cond, ◌==◌, List, [], ◌∷◌, ◌++◌, map, Option, Some, None, refl, sym, ap, ◌∙◌, subst, append_assoc, eq-eqb, arith, All}
+use Rattle.site_laws.proofs.Words.{eqb-true, eqb-false, All-head, All-tail, Mem, mem_left, mem_right, mem_split, each_at, some_same, Setting, IsNode, node_number, node_of, NumbersAreNodes, Packet, packet, IsPacket, Sent, Node, Input, Start, Own, Tick, Deliver, World, Entry, Disks, after, world_after, sends, WasSent, May, IsRun, opening, BusEntry, number_in, BusSent, sent, sent_by, sent_to, DeliveredWasSent, addressed, Reads, Path, StateOf, rows_of, cell_of, Means, AllMean, OpenedAs, made_by, EachWalked, IsRunOf}
 use Rattle.air_bus.specs.declared.entry.Input.{Input as Bytes}
 use Rattle.air_bus.specs.declared.entry.Input.TheVariants as bytes
-use Rattle.air_bus.specs.declared.entry.Entry.{Entry as BusEntry}
 use Rattle.air_bus.specs.declared.entry.Entry.TheVariants as bus
-use Rattle.air_bus.specs.History.{node_of as number_in}
-use Rattle.air_bus.specs.Laws.{Sent as BusSent, sent, sent_by, sent_to, DeliveredWasSent}
-use Rattle.site_node.specs.Bytes.{addressed, Reads}
-use Rattle.site_node.specs.States.{Path}
-use Rattle.site_laws.specs.Kinds.{StateOf, rows_of, cell_of}
-use Rattle.site_laws.specs.Meaning.{Means, AllMean, OpenedAs, StandsFor}
-use Rattle.site_laws.specs.Laws.{made_by, EachWalked, IsRunOf}
+use Rattle.site_laws.specs.Meaning.{StandsFor}
 use Rattle.site_laws.proofs.Addressing.{sends_right}
 use Rattle.site_laws.proofs.Stepping.{OneSpelling, Deed, Begins, Ends, Stops, entry_of, sent_of, DoesRight, done, state_at, steps}
 use Rattle.site_laws.proofs.Lifting.{CellOf, put, put_sent, put_here, put_else, may_come, after_is, cell_opening}
@@ -64,8 +54,6 @@ module _ (g : Setting) (numbers : NumbersAreNodes g) where
   -- what an entry sends is what its meaning sends
   sent_now : (n : Node) (e : BusEntry) (deed : Deed) (x : BusSent) (old : List Sent)
       → Means g e (entry_of n deed) → DoesRight g deed → Mem x (sent_by e) → IsSentAs g (sent_of n deed ++ old) x
-  sent_now n (bus.Begin m b) deed x old means right mem = absurd mem
-  sent_now n (bus.Stop m landed) deed x old means right mem = absurd mem
   sent_now n (bus.End m noted ps kept) (Begins i) x old means right mem = absurd means
   sent_now n (bus.End m noted ps kept) (Stops landed) x old means right mem = absurd means
   sent_now n (bus.End m noted ps kept) (Ends made qs taken) x old means right mem =
@@ -81,6 +69,7 @@ module _ (g : Setting) (numbers : NumbersAreNodes g) where
         bytes_are = refl;
         was_sent = mem_left _ (sends n qs) old (mem_sends n qs q found.1);
       })
+  sent_now n _ deed x old means right mem = absurd mem
 
 -- ---- fronts
 
@@ -141,10 +130,7 @@ module _ (g : Setting) (one : OneSpelling) (numbers : NumbersAreNodes g) (h : Li
           subst (λ k. GoesFrom g k (cell_of (put w n c more) k) rest (at k)) same (subst (λ (d : CellOf n). GoesFrom g n d rest (at n)) (sym (put_here w n c more)) goes)
 
       other : number_in e ≢ node_number m → GoesFrom g m (cell_of (put w n c more) m) rest (at m)
-      other ne =
-          let differs : m ≢ n = λ same. ne (sym (numbers.back (number_in e) n is).0 ∙ ap node_number (sym same)) in
-          let x = f.nodes m is_node in
-          grind (arith, put_else)
+      other ne = grind (arith, put_else)
 
       by : (b : Bool) → (number_in e == node_number m) ≡ b → GoesFrom g m (cell_of (put w n c more) m) rest (at m)
       by true t = here (eqb-true (number_in e) (node_number m) t)

@@ -1,27 +1,15 @@
 -- Bytes keep one store, and that by what they stand for alone.
-use Rattle.std.proofs.Common.{◌≡◌, ℕ, ◌<◌, List, [], ◌∷◌, ◌++◌, Option, Result, Ok, refl, sym, ◌∙◌, ap, subst, arith}
-use Rattle.std.specs.Prelude.{map, All, option_map}
-use Rattle.std.proofs.lemmas.List.Elements.{All-head, All-tail}
-use Rattle.photon_model.proofs.Words.{Each, Promised, Took as Accepted, PairRec, IsPair, Node, Dispatcher, Server, Replica, Joiner, Setting, IsNode, BallotNote, ReplicaKept, Disks, Topology}
-use Rattle.outside.specs.declared.store.DiskName.{DiskName}
+use Rattle.std.proofs.Common.{◌≡◌, ℕ, ◌<◌, List, [], ◌∷◌, ◌++◌, Option, Result, Ok, refl, sym, ◌∙◌, ap, subst, arith, map, All, option_map}
+use Rattle.site_laws.proofs.Words.{All-head, All-tail, Each, Promised, Accepted, PairRec, IsPair, Node, Dispatcher, Server, Replica, Joiner, Setting, IsNode, BallotNote, ReplicaKept, Disks, Topology, DiskName, ReplicaNote, place_of, note_view, note, IsNote, gate_rule, read_as, KeptTopology, IsVoted, vote_record, views_ok, kept_of, joiner_of, KeepsTopology, KeepsVotes, KeepsOf, HoldsRecords, KeepOneTopology, HoldSameRecords, ReadTopologyIsKept, ReadNotesAreKept}
 use Rattle.outside.specs.declared.store.DiskName.TheVariants as name
-use Rattle.paxos_acceptor.specs.declared.notes.ReplicaNote.{ReplicaNote}
 use Rattle.paxos_acceptor.specs.declared.notes.ReplicaNote.TheVariants as replica
-use Rattle.paxos_acceptor.specs.Cells.{place_of, note_view}
-use Rattle.packet_codec.specs.Notes.{note, IsNote}
-use Rattle.gate_journal.specs.Gate.{gate_rule, StandsFor}
-use Rattle.gate_journal.specs.Fold.{read_as}
-use Rattle.topology_journal.specs.declared.topology.Topology.{Topology as KeptTopology}
+use Rattle.gate_journal.specs.Gate.{StandsFor}
 use Rattle.topology_journal.specs.Topologies as journal
 use Rattle.offset_journal.specs.Offsets as offsets
 use Rattle.retry_log.specs.Pending as pending
 use Rattle.epoch_journal.specs.Epochs as epochs
 use Rattle.output_log.specs.Pairs as pairs
-use Rattle.site_node.specs.Replicas.{IsVoted, vote_record}
-use Rattle.site_node.proofs.Replicas.{views_ok}
-use Rattle.site_laws.specs.Kinds.{kept_of}
-use Rattle.site_laws.specs.Stores.{Bytes, joiner_of, KeepsTopology, KeepsVotes, KeepsOf, HoldsRecords}
-use Rattle.site_laws.specs.StoreLaws.{KeepOneTopology, HoldSameRecords, ReadTopologyIsKept, ReadNotesAreKept}
+use Rattle.site_laws.specs.Stores.{Bytes}
 use Rattle.site_laws.proofs.Naming.{seat_of}
 
 -- ---- what two bytes keep that stand for the same
@@ -33,10 +21,9 @@ pub keeps_again : (g : Setting) (d : Disks) (disk : DiskName) (b c : List ℕ) �
 keeps_again g d name.Topology b c e k = tt
 keeps_again g d (name.Offset s) b c e k = ap (read_as offsets.offsets) (sym e) ∙ k
 keeps_again g d (name.Retry s) b c e k = ap (read_as pending.retries) (sym e) ∙ k
-keeps_again g d (name.Server s) b c e k = ap (read_as epochs.epochs) (sym e) ∙ k
 keeps_again g d (name.Replica r) b c e k = (k.0, sym e ∙ k.1)
-keeps_again g d (name.Epoch s j) b c e k = ap (read_as epochs.epochs) (sym e) ∙ k
 keeps_again g d (name.Output s j) b c e k = (k.0, sym e ∙ k.1)
+keeps_again g d _ b c e k = ap (read_as epochs.epochs) (sym e) ∙ k
 
 -- ---- one value for the bytes
 
@@ -46,9 +33,8 @@ one_value r x y a b = cc
 -- lists whose elements have spellings of their own are equal by these
 one_list : {A : Type 0} (P : A → Type 0) (f : A → List ℕ) → ((x y : A) → P x → P y → f x ≡ f y → x ≡ y) → (xs ys : List A) → Each P xs → Each P ys → map f xs ≡ map f ys → xs ≡ ys
 one_list P f apart [] [] h k e = refl
-one_list P f apart [] (y ∷ ys) h k e = absurd (cc e)
-one_list P f apart (x ∷ xs) [] h k e = absurd (cc e)
 one_list P f apart (x ∷ xs) (y ∷ ys) h k e = grind (arith, one_list P f apart xs ys h.1 k.1)
+one_list P f apart _ _ h k e = absurd (cc e)
 
 all_each : {A : Type 0} (P : A → Type 0) (xs : List A) → All P xs → Each P xs
 all_each P [] h = tt

@@ -1,12 +1,7 @@
 -- What all disks may hold is an image of the model's world after the run.
 use Rattle.std.proofs.Common.{◌≡◌, ⊎_elim, Bool, true, List, [], ◌∷◌, ◌++◌, refl, ◌∙◌, subst, arith}
-use Rattle.photon_model.proofs.Words.{Setting, IsNode, Node, Dispatcher, Server, Replica, Joiner, World, Entry, Begin, End, Stop, Disks, disks, after, world_after, May, IsRun, opening, WholeSound, RunsKeepWhole, left_by, image, ImagesAreRuns, Cell}
-use Rattle.air_bus.specs.declared.entry.Entry.{Entry as BusEntry}
-use Rattle.site_node.specs.States.{State, Rows, MayHold}
-use Rattle.site_laws.specs.Kinds.{StateOf, rows_of, cell_of, kept_of}
+use Rattle.site_laws.proofs.Words.{Setting, IsNode, Node, Dispatcher, Server, Replica, Joiner, World, Entry, Begin, End, Stop, Disks, disks, after, world_after, May, IsRun, opening, WholeSound, RunsKeepWhole, left_by, image, ImagesAreRuns, Cell, BusEntry, State, Rows, MayHold, StateOf, rows_of, cell_of, kept_of, is_node_or, IsRunOf, MayLeave, LeftIsWhole}
 use Rattle.site_laws.specs.Meaning.{StandsFor}
-use Rattle.site_laws.specs.Choosing.{is_node_or}
-use Rattle.site_laws.specs.Laws.{IsRunOf, MayLeave, LeftIsWhole}
 use Rattle.site_laws.proofs.Stepping.{OneSpelling, Begins, Ends, Stops, Deed, entry_of, model_row, one_reading}
 use Rattle.site_laws.proofs.Lifting.{CellOf, put_else, after_is, cell_opening}
 

@@ -14,3 +14,4 @@ mod AddedRows
 pub mod LongerLogs
 pub mod Running
 pub mod Working
+mod Words

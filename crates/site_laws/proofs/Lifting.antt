@@ -1,8 +1,6 @@
 -- What one node does, in the world of all.
 use Rattle.std.proofs.Common.{◌≡◌, ◌≢◌, ⊎_elim, ℕ, ◌≤◌, List, ◌++◌, None, refl, sym, ◌∙◌, arith}
-use Rattle.std.proofs.lemmas.Bool.{cases_lt}
-use Rattle.photon_model.proofs.Words.{set_at, Setting, none_some, IsNode, node_of, node_count, NumbersAreNodes, Sent, Node, Dispatcher, Server, Replica, Joiner, World, Disks, after, May, down, opening, Cell}
-use Rattle.site_laws.specs.Kinds.{KeptOf, LiveOf, rows_of, cell_of, kept_of}
+use Rattle.site_laws.proofs.Words.{cases_lt, set_at, Setting, none_some, IsNode, node_of, node_count, NumbersAreNodes, Sent, Node, Dispatcher, Server, Replica, Joiner, World, Disks, after, May, down, opening, Cell, KeptOf, LiveOf, rows_of, cell_of, kept_of}
 use Rattle.site_laws.proofs.Stepping.{Deed, Begins, Ends, entry_of, sent_of, MayDo, done}
 
 abbrev pub CellOf : Node → Type 0
@@ -20,9 +18,7 @@ put_sent w n c more = grind arith
 
 pub put_here : (w : World) (n : Node) (c : CellOf n) (more : List Sent) → cell_of (put w n c more) n ≡ c
 put_here w (Dispatcher s) c more = grind arith
-put_here w (Server s) c more = grind arith
-put_here w (Replica r) c more = grind arith
-put_here w (Joiner j) c more = grind arith
+put_here w _ c more = grind arith
 
 pub put_else : (w : World) (n m : Node) (c : CellOf n) (more : List Sent) → m ≢ n → cell_of (put w n c more) m ≡ cell_of w m
 put_else w (Dispatcher s) (Dispatcher t) c more ne = grind arith

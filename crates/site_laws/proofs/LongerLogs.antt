@@ -1,10 +1,6 @@
 -- A store whose logs have grown.
 use Rattle.std.proofs.Common.{◌≡◌, ◌∙◌, arith}
-use Rattle.turn_defs.specs.Setting.{Setting}
-use Rattle.photon_model.specs.Topology.{topology_of}
-use Rattle.photon_model.specs.Stores.{IsOneTopology, LongerKeepsWhole}
-use Rattle.site_laws.specs.Stores.{Images}
-use Rattle.site_laws.specs.StoreLaws.{LongerStaysSound}
+use Rattle.site_laws.proofs.Words.{Setting, topology_of, IsOneTopology, LongerKeepsWhole, Images, LongerStaysSound}
 use Rattle.site_laws.proofs.SameDisks.{disk_onward, disk_back, keeps_onward}
 
 topology_same : (g h : Setting) → IsOneTopology g h → topology_of g ≡ topology_of h

@@ -1,23 +1,12 @@
 -- The disks of a setting, and the numbers of its joiners.
-use Rattle.std.proofs.Common.{◌≡◌, ◌≢◌, ◌⊎◌, inl, inr, ⊎_elim, ℕ, ◌+◌, ◌-◌, ◌<◌, List, [], Option, Some, refl, subst, arith, zero, suc, lit<}
-use Rattle.std.specs.Prelude.{IfSome}
-use Rattle.std.proofs.lemmas.Bool.{cases_lt}
-use Rattle.list_words.proofs.Lists.{none_some, some_same}
-use Rattle.outside.specs.declared.store.DiskName.{DiskName}
+use Rattle.std.proofs.Common.{◌≡◌, ◌≢◌, ◌⊎◌, inl, inr, ⊎_elim, ℕ, ◌+◌, ◌-◌, ◌<◌, List, [], Option, Some, refl, subst, arith, zero, suc, lit<, IfSome}
+use Rattle.site_laws.proofs.Words.{cases_lt, none_some, some_same, DiskName, IsNode, Setting, IsJoiner, first_joiner, Node, IsDisk, joiner_of, node_with}
 use Rattle.outside.specs.declared.store.DiskName.TheVariants as name
-use Rattle.turn_defs.specs.Nodes.{IsNode}
-use Rattle.turn_defs.specs.Setting.{Setting, IsJoiner, first_joiner}
-use Rattle.turn_defs.specs.declared.node.Node.{Node}
-use Rattle.site_laws.specs.Stores.{Bytes, IsDisk, joiner_of, node_with}
+use Rattle.site_laws.specs.Stores.{Bytes}
 
 pub is_disk_or : (g : Setting) (disk : DiskName) → IsDisk g disk ⊎ (IsDisk g disk → ⊥)
 is_disk_or g name.Topology = inl tt
-is_disk_or g (name.Offset s) = grind (arith, cases_lt)
-is_disk_or g (name.Retry s) = grind (arith, cases_lt)
-is_disk_or g (name.Server s) = grind (arith, cases_lt)
-is_disk_or g (name.Replica r) = grind (arith, cases_lt)
-is_disk_or g (name.Epoch s j) = grind (arith, cases_lt)
-is_disk_or g (name.Output s j) = grind (arith, cases_lt)
+is_disk_or g _ = grind arith
 
 -- where there are such bytes for each disk of the setting, one function has them all
 module _ (g : Setting) (P : DiskName → List ℕ → Type 0) (each : (disk : DiskName) → IsDisk g disk → (c : List ℕ) × P disk c) where
@@ -48,18 +37,16 @@ seat_of g n is =
     (cases_lt n (first_joiner g + g.config.joiners))
 
 pub is_joiner : (g : Setting) (s j : ℕ) → s < 2 → j < g.config.joiners → IsJoiner g (joiner_of g s j)
-is_joiner g zero j s_below j_below = (omega arith, omega (arith, j_below))
-is_joiner g (suc zero) j s_below j_below = (omega arith, omega (arith, j_below))
 is_joiner g (suc (suc s)) j s_below j_below = absurd (omega (arith, s_below))
+is_joiner g _ j s_below j_below = (omega arith, omega (arith, j_below))
 
 pub one_seat : (g : Setting) (s j t i : ℕ) → s < 2 → j < g.config.joiners → t < 2 → i < g.config.joiners → joiner_of g s j ≡ joiner_of g t i → (s ≡ t) × (j ≡ i)
-one_seat g zero j zero i a b c d e = (refl, omega (arith, e))
 one_seat g zero j (suc zero) i a b c d e = absurd (omega (arith, b, e))
 one_seat g (suc zero) j zero i a b c d e = absurd (omega (arith, d, e))
-one_seat g (suc zero) j (suc zero) i a b c d e = (refl, omega (arith, e))
 one_seat g zero j (suc (suc t)) i a b c d e = absurd (omega (arith, c))
 one_seat g (suc zero) j (suc (suc t)) i a b c d e = absurd (omega (arith, c))
 one_seat g (suc (suc s)) j t i a b c d e = absurd (omega (arith, a))
+one_seat g _ j _ i a b c d e = (refl, omega (arith, e))
 
 -- ---- the topology's disk and the others
 

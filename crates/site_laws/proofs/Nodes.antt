@@ -1,18 +1,11 @@
 -- What is sound is so by the records of the setting's nodes alone.
-use Rattle.std.proofs.Common.{◌≡◌, ◌⊎◌, inl, inr, ⊎_elim, ℕ, ◌+◌, ◌<◌, ◌≤◌, List, refl, sym, ◌∙◌, ap, subst, arith, zero, suc}
-use Rattle.photon_model.proofs.Words.{EventId, Insert, Batch, IsGranted, Registered, Expired, Mem, Each, each_more, JournalsAgree, PairRec, Dispatcher, Server, Replica, Joiner, Setting, shard, BallotNote, DispatcherKept, JoinerKept, ServerKept, ReplicaKept, values_from, journals, AreOwned, Disks, Known, IsWritten, IsSettled, DispatcherSound, PairSound, JoinerSound, DrawnSound, InsertsOf, known_of, Sound, inserts_of, accepted_inserts, SoundStore, IsBlank}
-use Rattle.photon_model.specs.Journals.{decided}
-use Rattle.site_laws.specs.Stores.{SameRecords}
-use Rattle.site_laws.specs.StoreLaws.{SameIsSound, SameIsWhole}
-
--- functions that are the same at so many numbers have the same values there
-values_same : {A : Type 0} (f h : ℕ → A) (from n : ℕ) → ((k : ℕ) → k < from + n → f k ≡ h k) → values_from f from n ≡ values_from h from n
-values_same f h from zero same = refl
-values_same f h from (suc n) same = grind (arith, values_same f h (suc from) n)
+use Rattle.std.proofs.Common.{◌≡◌, ◌⊎◌, inl, inr, ℕ, ◌≤◌, List, sym, ◌∙◌, ap, subst, arith}
+use Rattle.photon_model.proofs.Journals.{values_same}
+use Rattle.site_laws.proofs.Words.{EventId, Insert, Batch, IsGranted, Registered, Expired, Mem, Each, each_more, JournalsAgree, PairRec, Dispatcher, Server, Replica, Joiner, Setting, shard, BallotNote, DispatcherKept, JoinerKept, ServerKept, ReplicaKept, journals, AreOwned, Disks, Known, IsWritten, IsSettled, DispatcherSound, PairSound, JoinerSound, DrawnSound, InsertsOf, known_of, Sound, inserts_of, accepted_inserts, SoundStore, IsBlank, decided, SameRecords, SameIsSound, SameIsWhole}
 
 module _ (g : Setting) (d e : Disks) (same : SameRecords g d e) where
   journals_same : journals g.config.replicas d.replicas ≡ journals g.config.replicas e.replicas
-  journals_same = values_same (λ k. (d.replicas k).notes) (λ k. (e.replicas k).notes) 0 g.config.replicas (λ k l. ap (λ (x : ReplicaKept). x.notes) (same (Replica k) (omega (arith, l))))
+  journals_same = values_same (λ k. (d.replicas k).notes) (λ k. (e.replicas k).notes) 0 g.config.replicas (λ k _ l. ap (λ (x : ReplicaKept). x.notes) (same (Replica k) (omega (arith, l))))
 
   module _ (drawn : List Insert) where
     abbrev before : Known
@@ -44,12 +37,7 @@ module _ (g : Setting) (d e : Disks) (same : SameRecords g d e) where
     settled_same i (inr x) = inr (written_same i x)
 
     dispatcher_same : (k : DispatcherKept) → DispatcherSound g before k → DispatcherSound g after k
-    dispatcher_same k x = record {
-      boundary = x.boundary;
-      starts = x.starts;
-      once = x.once;
-      passed = λ l m lt. ⊎_elim (λ q. inl q) (λ q. inr (settled_same l.click.id q)) (x.passed l m lt);
-    }
+    dispatcher_same k x = grind (arith, settled_same)
 
     drawing_same : DrawnSound g before (λ j. (d.joiners j).epoch) → DrawnSound g after (λ j. (e.joiners j).epoch)
     drawing_same x = record {

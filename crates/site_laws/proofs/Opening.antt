@@ -1,13 +1,8 @@
 -- What keeps the disks of a store sound: no bytes at all, nothing new, the topology's record, and what is read from them.
 use Rattle.std.proofs.Common.{◌≡◌, ◌≢◌, ⊎_elim, ℕ, Bool, true, List, [], Option, Some, None, refl, sym, ◌∙◌, ap, subst, arith}
-use Rattle.std.proofs.lemmas.List.Elements.{All-nil}
-use Rattle.photon_model.proofs.Words.{some_same, none_some, IsPair, Setting, Topology, topology_of, Store, WholeSound, empty_disks, empty_store, TopologyComesFirst}
-use Rattle.outside.specs.declared.store.DiskName.{DiskName}
+use Rattle.site_laws.proofs.Words.{All-nil, some_same, none_some, IsPair, Setting, Topology, topology_of, Store, WholeSound, empty_disks, empty_store, TopologyComesFirst, DiskName, gate_rule, records, IsOpened, Images, IsDisk, IsChoice, KeepsTopology, KeepsOf, IsFit, KeepSound, IsSoundStore, AreLeft, SameRecords, KeepOneTopology, HoldSameRecords, SameIsWhole, LeavesNothing, TopologyIsFirst, TopologyFits, StaysSound, OthersStay, WrittenIsSound}
 use Rattle.outside.specs.declared.store.DiskName.TheVariants as name
-use Rattle.gate_journal.specs.Gate.{gate_rule, records}
-use Rattle.gate_journal.specs.Opening.{IsOpened}
-use Rattle.site_laws.specs.Stores.{Bytes, Images, IsDisk, IsChoice, KeepsTopology, KeepsOf, IsFit, KeepSound, IsSoundStore, AreLeft, SameRecords}
-use Rattle.site_laws.specs.StoreLaws.{KeepOneTopology, HoldSameRecords, SameIsWhole, LeavesNothing, TopologyIsFirst, TopologyFits, StaysSound, OthersStay, WrittenIsSound}
+use Rattle.site_laws.specs.Stores.{Bytes}
 use Rattle.site_laws.proofs.Naming.{choose, by_topology}
 use Rattle.site_laws.proofs.Keeping.{topology_again, keeps_again}
 

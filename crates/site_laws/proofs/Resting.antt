@@ -1,12 +1,7 @@
 -- Rest and quiet points, from the states that the world stands for.
 use Rattle.std.proofs.Common.{◌≡◌, Option, None, refl, sym, subst}
-use Rattle.turn_defs.specs.Setting.{Setting}
-use Rattle.turn_defs.specs.declared.node.Node.TheVariants.{Dispatcher, Server, Replica, Joiner}
-use Rattle.site_node.specs.States.{State}
-use Rattle.photon_model.specs.Rest.{UpWith}
-use Rattle.photon_model.specs.Runs.{Cell}
+use Rattle.site_laws.proofs.Words.{Setting, Dispatcher, Server, Replica, Joiner, State, UpWith, Cell, StatesRest, StatesAreQuiet}
 use Rattle.site_laws.specs.Meaning.{StandsFor}
-use Rattle.site_laws.specs.Rest.{StatesRest, StatesAreQuiet}
 use Rattle.site_laws.proofs.Stepping.{opened_none}
 
 -- what holds of what a state knows holds of the model's node

@@ -1,15 +1,8 @@
 -- What a run leaves of a store's disks.
 use Rattle.std.proofs.Common.{◌≡◌, true, Option, Some, refl, sym, ◌∙◌, subst, arith}
-use Rattle.photon_model.proofs.Words.{some_same, Node, Setting, Disks, Topology, topology_of}
-use Rattle.outside.specs.declared.store.DiskName.{DiskName}
+use Rattle.site_laws.proofs.Words.{some_same, Node, Setting, Disks, Topology, topology_of, DiskName, row_landed_ok, row_ok, KeptOf, StateOf, all_left, MayLeave, LeftIsWhole, Images, IsDisk, IsChoice, KeepsFor, KeepsTopology, HoldsRecords, AreKept, node_with, LeftIsHeld, RunStaysSound, StatesKeepVotes}
 use Rattle.outside.specs.declared.store.DiskName.TheVariants as name
-use Rattle.site_node.proofs.Replicas.{row_landed_ok}
-use Rattle.site_node.proofs.Replicas.{row_ok}
-use Rattle.site_laws.specs.Kinds.{KeptOf, StateOf}
-use Rattle.site_laws.specs.Choosing.{all_left}
-use Rattle.site_laws.specs.Laws.{MayLeave, LeftIsWhole}
-use Rattle.site_laws.specs.Stores.{Bytes, Images, IsDisk, IsChoice, KeepsFor, KeepsTopology, HoldsRecords, AreKept, node_with}
-use Rattle.site_laws.specs.StoreLaws.{LeftIsHeld, RunStaysSound, StatesKeepVotes}
+use Rattle.site_laws.specs.Stores.{Bytes}
 use Rattle.site_laws.proofs.Naming.{by_node, node_of_disk}
 
 module _ (g : Setting) (at : (n : Node) → StateOf n) (image : Images) (b : Bytes) (kept : AreKept g at image) (choice : IsChoice g image b) where

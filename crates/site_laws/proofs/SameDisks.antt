@@ -1,12 +1,7 @@
 -- Two settings with the same disks.
 use Rattle.std.proofs.Common.{◌≡◌, ℕ, ◌+◌, ◌*◌, ◌<◌, List, sym, ◌∙◌, ap, subst}
-use Rattle.outside.specs.declared.store.DiskName.{DiskName}
+use Rattle.site_laws.proofs.Words.{DiskName, KeepsEpoch, KeepsPairs, Setting, first_joiner, Disks, IsDisk, joiner_of, KeepsOf}
 use Rattle.outside.specs.declared.store.DiskName.TheVariants as name
-use Rattle.epoch_journal.specs.Epochs.{Keeps as KeepsEpoch}
-use Rattle.output_log.specs.Pairs.{Keeps as KeepsPairs}
-use Rattle.turn_defs.specs.Setting.{Setting, first_joiner}
-use Rattle.photon_model.specs.Runs.{Disks}
-use Rattle.site_laws.specs.Stores.{IsDisk, joiner_of, KeepsOf}
 
 module _ (g h : Setting) (joiners : g.config.joiners ≡ h.config.joiners) (replicas : g.config.replicas ≡ h.config.replicas) where
   pub disk_onward : (disk : DiskName) → IsDisk g disk → IsDisk h disk

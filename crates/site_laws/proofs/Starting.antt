@@ -1,20 +1,8 @@
 -- The worked history of a dispatcher that comes up.
-use Rattle.std.proofs.Common.{◌≡◌, ◌≢◌, ℕ, zero, suc, false, cond, List, [], ◌∷◌, None, refl, sym, ap, ◌∙◌, arith, ne_eqb}
-use Rattle.std.proofs.lemmas.List.Elements.{All-nil}
-use Rattle.photon_model.proofs.Words.{none_some, IsNode, node_number, node_of, worked, Packet, IsPacket, Node, Dispatcher, Server, Replica, Joiner, Start, empty_disks}
-use Rattle.lossy_link.specs.declared.plan.Kind.{Kind}
-use Rattle.lossy_link.specs.Fates.{PlanView}
+use Rattle.std.proofs.Common.{◌≡◌, ◌≢◌, ℕ, zero, false, cond, List, [], ◌∷◌, None, refl, sym, ap, ◌∙◌, arith, ne_eqb}
+use Rattle.site_laws.proofs.Words.{All-nil, none_some, IsNode, node_number, node_of, worked, Packet, IsPacket, Node, Dispatcher, Start, empty_disks, Kind, PlanView, Down, Busy, IsAired, is_dead, aired_more, aired_none, AreSpelled, Path, rows_of, down_over, made_by, on_the_bus, stands_at, DispatcherComesUp, DownIsStrict}
 use Rattle.air_bus.specs.declared.entry.Input.TheVariants as bytes
 use Rattle.air_bus.specs.declared.entry.Entry.TheVariants as bus
-use Rattle.air_bus.specs.declared.entry.Phase.TheVariants.{Down, Busy}
-use Rattle.air_bus.specs.History.{IsAired}
-use Rattle.air_bus.specs.Waiting.{is_dead}
-use Rattle.air_bus.proofs.Phases.{aired_more, aired_none}
-use Rattle.site_node.specs.Bytes.{AreSpelled}
-use Rattle.site_node.specs.States.{Path}
-use Rattle.site_laws.specs.Kinds.{rows_of, down_over}
-use Rattle.site_laws.specs.Laws.{made_by}
-use Rattle.site_laws.specs.Example.{on_the_bus, stands_at, DispatcherComesUp, DownIsStrict}
 
 -- no packet is spelled by no bytes
 none_spelled : AreSpelled [] []
@@ -26,10 +14,7 @@ none_made m ne = ap (λ b. cond b (bus.Begin 0 bytes.Start ∷ cond b (bus.End 0
 
 paths : (n : Node) → IsNode worked n → Path (rows_of n) (down_over worked empty_disks n) (made_by (node_number n) on_the_bus) (stands_at n)
 paths (Dispatcher zero) is = grind arith
-paths (Dispatcher (suc s)) is = grind (arith, worked, empty_disks, none_made, node_number)
-paths (Server s) is = grind (arith, worked, empty_disks, none_made, node_number)
-paths (Replica r) is = grind (arith, worked, empty_disks, none_made, node_number)
-paths (Joiner j) is = grind (arith, worked, empty_disks, none_made, node_number)
+paths _ is = grind (arith, worked, empty_disks)
 
 not_busy : Down ≢ Busy
 not_busy e = cc

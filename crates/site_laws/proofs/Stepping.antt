@@ -1,16 +1,10 @@
 -- One entry of a node of any kind: what leads its state on is what the model's node may do.
 use Rattle.std.proofs.Common.{◌≡◌, inl, inr, ⊎_elim, ℕ, ◌≤◌, List, [], length, Option, Some, None, refl, sym, ap, ◌∙◌, subst, arith}
 use Rattle.std.specs.Prelude.{⊤}
-use Rattle.std.proofs.lemmas.List.{length-map}
-use Rattle.photon_model.proofs.Words.{Each, some_same, Setting, IsNode, node_of, Addressed, NumbersAreNodes, Note, Out, Packet, packet, IsPacket, Sent, Node, Input, Deliver, Entry, Begin, End, Stop, begun, ended, stopped, row, sends, Fits, WasSent, MayBegin, IsTurn, MayStop, Cell}
+use Rattle.site_laws.proofs.Words.{length-map, Each, some_same, Setting, IsNode, node_of, Addressed, NumbersAreNodes, Note, Out, Packet, packet, IsPacket, Sent, Node, Input, Deliver, Entry, Begin, End, Stop, begun, ended, stopped, row, sends, Fits, WasSent, MayBegin, IsTurn, MayStop, Cell, BusEntry, number_in, IsNoted, addressed, Reads, State, Rows, MayTake, row_of, Leads, IsDone, IsIdle, Means, OpenedAs}
 use Rattle.air_bus.specs.declared.entry.Input.{Input as Bytes}
 use Rattle.air_bus.specs.declared.entry.Input.TheVariants as bytes
-use Rattle.air_bus.specs.declared.entry.Entry.{Entry as BusEntry}
 use Rattle.air_bus.specs.declared.entry.Entry.TheVariants as bus
-use Rattle.air_bus.specs.History.{node_of as number_in}
-use Rattle.site_node.specs.Bytes.{IsNoted, addressed, Reads}
-use Rattle.site_node.specs.States.{State, Rows, MayTake, row_of, Leads, IsDone, IsIdle}
-use Rattle.site_laws.specs.Meaning.{Means, OpenedAs}
 use Rattle.site_laws.proofs.Addressing.{SendsRight, ComesRight, all_right}
 
 -- no two packets share a spelling
@@ -59,13 +53,10 @@ comes_right g numbers b i r = grind arith
 
 fits : {L : Type 0} (g : Setting) (live : Option L) (b : Bytes) (i : Input) → MayTake live b → Reads g b i → Fits live i
 fits {L} g None bytes.Start i m r = subst (λ j. Fits {L = L} None j) (sym r) tt
-fits g None bytes.Own i m r = absurd m
-fits g None bytes.Tick i m r = absurd m
-fits g None (bytes.Packet from b) i m r = absurd m
-fits g (Some l) bytes.Start i m r = absurd m
 fits g (Some l) bytes.Own i m r = subst (λ j. Fits (Some l) j) (sym r) tt
 fits g (Some l) bytes.Tick i m r = subst (λ j. Fits (Some l) j) (sym r) tt
 fits g (Some l) (bytes.Packet from b) i m r = subst (λ j. Fits (Some l) j) (sym r.5) tt
+fits g _ _ i m r = absurd m
 
 -- ---- one kind of node
 

@@ -1,20 +1,10 @@
 -- Which bytes keep a sound store, worked out.
 use Rattle.std.proofs.Common.{◌≡◌, ◌≢◌, inr, ℕ, [], ◌∷◌, Option, Some, None, Result, Ok, refl, sym, ◌∙◌, ap, subst, lit<, arith}
-use Rattle.outside.specs.declared.store.DiskName.{DiskName}
+use Rattle.site_laws.proofs.Words.{DiskName, gate_rule, records, KeptTopology, record_of, a_pair, worked, Setting, topology_of, WholeSound, empty_store, TopologyComesFirst, Images, KeepsTopology, KeepSound, KeepOneTopology, TopologyIsFirst, TopologyFits, topology_alone, pair_alone, a_row, row_behind, SoundBytes, with_row}
 use Rattle.outside.specs.declared.store.DiskName.TheVariants as name
-use Rattle.gate_journal.specs.Gate.{gate_rule, reading, records}
-use Rattle.topology_journal.specs.declared.topology.Topology.{Topology as KeptTopology}
+use Rattle.gate_journal.specs.Gate.{reading}
 use Rattle.topology_journal.specs.Topologies as journal
-use Rattle.output_log.specs.Pairs.{record_of}
-use Rattle.output_log.specs.Rows.{a_pair}
-use Rattle.turn_defs.specs.Rows.{worked}
-use Rattle.turn_defs.specs.Setting.{Setting}
-use Rattle.photon_model.specs.Topology.{topology_of, WholeSound}
-use Rattle.photon_model.specs.Stores.{empty_store, TopologyComesFirst}
-use Rattle.site_laws.specs.Stores.{Bytes, Images, KeepsTopology, KeepSound}
-use Rattle.site_laws.specs.StoreLaws.{KeepOneTopology, TopologyIsFirst, TopologyFits}
-use Rattle.site_laws.specs.StoreExample.{topology_alone, pair_alone, a_row, row_behind, SoundBytes}
-use Rattle.photon_model.specs.Adding.{with_row}
+use Rattle.site_laws.specs.Stores.{Bytes}
 use Rattle.site_laws.proofs.Opening.{empty_sound, written_sound}
 
 -- these bytes alone

@@ -1,12 +1,7 @@
 -- Where each node that there is has some state, or some records that are left, one function has all of them.
 use Rattle.std.proofs.Common.{◌≡◌, ◌⊎◌, inl, inr, ⊎_elim, ◌+◌, ◌*◌, refl, sym, ◌∙◌, subst, arith}
 use Rattle.std.proofs.lemmas.Bool.{cases_lt}
-use Rattle.turn_defs.specs.Setting.{Setting, first_joiner}
-use Rattle.turn_defs.specs.Nodes.{IsNode}
-use Rattle.turn_defs.specs.declared.node.Node.{Node}
-use Rattle.turn_defs.specs.declared.node.Node.TheVariants.{Dispatcher, Server, Replica, Joiner}
-use Rattle.site_node.specs.States.{MayHold}
-use Rattle.photon_model.specs.Runs.{Disks}
+use Rattle.site_laws.specs.Terms.{Disks, Dispatcher, IsNode, Joiner, MayHold, Node, Replica, Server, Setting, first_joiner}
 use Rattle.site_laws.specs.Kinds.{KeptOf, StateOf, rows_of, kept_of}
 use Rattle.site_laws.specs.Laws.{MayLeave}
 

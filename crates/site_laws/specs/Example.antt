@@ -1,20 +1,11 @@
 -- What the bus keeps where a dispatcher comes up.
 use Rattle.std.specs.Prelude.{◌≡◌, ℕ, ◌==◌, false, List, [], ◌∷◌, if◌then◌else◌, Some, None}
-use Rattle.lossy_link.specs.declared.plan.Kind.{Kind}
-use Rattle.lossy_link.specs.Fates.{PlanView}
+use Rattle.site_laws.specs.Terms.{Begin, Disks, Dispatcher, DispatcherKept, DispatcherLive, End, Entry, IsAired, IsRun, Joiner, Kind, Node, Path, PlanView, Replica, Server, State, dispatcher_start, empty_disks, opening, worked}
 use Rattle.air_bus.specs.declared.entry.Input.TheVariants as bytes
 use Rattle.air_bus.specs.declared.entry.Entry.{Entry as BusEntry}
 use Rattle.air_bus.specs.declared.entry.Entry.TheVariants as bus
-use Rattle.air_bus.specs.History.{IsAired}
 use Rattle.air_bus.specs.Waiting.{is_dead}
-use Rattle.turn_defs.specs.Rows.{worked}
-use Rattle.turn_defs.specs.declared.node.Node.{Node}
-use Rattle.turn_defs.specs.declared.node.Node.TheVariants.{Dispatcher, Server, Replica, Joiner}
 use Rattle.turn_defs.specs.declared.node.Input.TheVariants.{Start}
-use Rattle.turn_defs.specs.Dispatcher.{DispatcherKept, DispatcherLive, dispatcher_start}
-use Rattle.site_node.specs.States.{State, Path}
-use Rattle.photon_model.specs.Runs.{Entry, Begin, End, Disks, IsRun, opening}
-use Rattle.photon_model.specs.Stores.{empty_disks}
 use Rattle.site_laws.specs.Kinds.{StateOf, rows_of, down_over}
 use Rattle.site_laws.specs.Meaning.{AllMean}
 use Rattle.site_laws.specs.Laws.{EachWalked}

@@ -1,15 +1,6 @@
 -- What the nodes of each kind keep and know, and their rows of the turn table, by the node.
 use Rattle.std.specs.Prelude.{ℕ, None}
-use Rattle.turn_defs.specs.Setting.{Setting}
-use Rattle.turn_defs.specs.declared.node.Node.{Node}
-use Rattle.turn_defs.specs.declared.node.Node.TheVariants.{Dispatcher, Server, Replica, Joiner}
-use Rattle.turn_defs.specs.Dispatcher.{DispatcherKept, DispatcherLive, land_dispatcher, dispatcher_start, dispatcher_turn}
-use Rattle.turn_defs.specs.Joiner.{JoinerKept, JoinerLive, land_joiner, joiner_start, joiner_turn}
-use Rattle.turn_defs.specs.Server.{ServerKept, ServerLive, land_server, server_start, server_turn}
-use Rattle.turn_defs.specs.Replica.{ReplicaKept}
-use Rattle.site_node.specs.Replicas.{replica_rows}
-use Rattle.site_node.specs.States.{Rows, State}
-use Rattle.photon_model.specs.Runs.{Cell, World, Disks}
+use Rattle.site_laws.specs.Terms.{Cell, Disks, Dispatcher, DispatcherKept, DispatcherLive, Joiner, JoinerKept, JoinerLive, Node, Replica, ReplicaKept, Rows, Server, ServerKept, ServerLive, Setting, State, World, dispatcher_start, dispatcher_turn, joiner_start, joiner_turn, land_dispatcher, land_joiner, land_server, replica_rows, server_start, server_turn}
 
 -- ---- the rows of each kind, as those of a node over its disks
 

@@ -1,15 +1,7 @@
 -- What the bus kept is a run.
 use Rattle.std.specs.Prelude.{◌≡◌, ℕ, Bool, true, List, [], ◌++◌, filter, Some, None}
-use Rattle.lossy_link.specs.declared.plan.Kind.{Kind}
-use Rattle.lossy_link.specs.Fates.{PlanView}
+use Rattle.site_laws.specs.Terms.{Checked, Disks, Entry, IsAired, IsNode, IsRun, Kind, MayHold, Node, Path, PlanView, Setting, Store, WholeSound, disks, is_of, node_number, node_of, opening, topology_of, world_after}
 use Rattle.air_bus.specs.declared.entry.Entry.{Entry as BusEntry}
-use Rattle.air_bus.specs.History.{is_of, IsAired}
-use Rattle.turn_defs.specs.Setting.{Setting, Checked}
-use Rattle.turn_defs.specs.Nodes.{IsNode, node_number, node_of}
-use Rattle.turn_defs.specs.declared.node.Node.{Node}
-use Rattle.site_node.specs.States.{Path, MayHold}
-use Rattle.photon_model.specs.Runs.{Entry, Disks, disks, world_after, IsRun, opening}
-use Rattle.photon_model.specs.Topology.{Store, WholeSound, topology_of}
 use Rattle.photon_model.specs.Images.{image}
 use Rattle.site_laws.specs.Kinds.{StateOf, rows_of, cell_of, kept_of, down_over}
 use Rattle.site_laws.specs.Meaning.{AllMean, StandsFor}

@@ -1,3 +1,4 @@
+pub mod Terms
 pub mod Kinds
 pub mod Meaning
 pub mod Laws

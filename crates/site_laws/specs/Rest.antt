@@ -1,14 +1,7 @@
 -- Rest and quiet points, by each node's own state.
 use Rattle.std.specs.Prelude.{◌≡◌, ℕ, ◌<◌, Bool, true, false, List, None, ⊤}
 use Rattle.air_bus.specs.declared.entry.Entry.{Entry as BusEntry}
-use Rattle.turn_defs.specs.Setting.{Setting}
-use Rattle.turn_defs.specs.Nodes.{IsNode}
-use Rattle.turn_defs.specs.declared.node.Node.{Node}
-use Rattle.turn_defs.specs.declared.node.Node.TheVariants.{Dispatcher, Server, Replica, Joiner}
-use Rattle.turn_defs.specs.Dispatcher.{dispatcher_wants, dispatcher_at_rest}
-use Rattle.turn_defs.specs.Joiner.{joiner_at_rest}
-use Rattle.turn_defs.specs.Server.{server_wants, server_at_rest}
-use Rattle.photon_model.specs.Runs.{Entry, Disks, world_after, opening}
+use Rattle.site_laws.specs.Terms.{Disks, Dispatcher, Entry, IsNode, Joiner, Node, Replica, Server, Setting, dispatcher_at_rest, dispatcher_wants, joiner_at_rest, opening, server_at_rest, server_wants, world_after}
 use Rattle.photon_model.specs.Rest.{UpWith, IsAtRest, is_out, IsQuiet}
 use Rattle.site_laws.specs.Kinds.{StateOf}
 use Rattle.site_laws.specs.Laws.{IsRunOf}

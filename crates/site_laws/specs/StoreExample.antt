@@ -3,13 +3,9 @@
 use Rattle.std.specs.Prelude.{ℕ, zero, List, [], ◌∷◌, ◌++◌}
 use Rattle.std.specs.Int.{to_be_bytes, w32}
 use Rattle.outside.specs.declared.store.DiskName.TheVariants as name
-use Rattle.gate_journal.specs.Gate.{framed}
+use Rattle.site_laws.specs.Terms.{ShardRow, framed, record_of, with_row, worked}
 use Rattle.topology_journal.specs.Topologies.{topology_of, record_of as topology_in, topology_record}
-use Rattle.time_shards.specs.declared.ShardRow.{ShardRow}
-use Rattle.output_log.specs.Pairs.{record_of}
 use Rattle.output_log.specs.Rows.{a_pair}
-use Rattle.turn_defs.specs.Rows.{worked}
-use Rattle.photon_model.specs.Adding.{with_row}
 use Rattle.site_laws.specs.Stores.{Bytes, KeepSound}
 
 -- the bytes of a journal with one record

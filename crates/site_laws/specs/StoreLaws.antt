@@ -1,28 +1,14 @@
 -- What keeps a store sound.
 use Rattle.std.specs.Prelude.{◌≡◌, ◌≢◌, ◌⊎◌, ℕ, Bool, List, [], Option, Some, option_map}
-use Rattle.list_words.specs.Lists.{Each}
-use Rattle.outside.specs.declared.store.DiskName.{DiskName}
+use Rattle.site_laws.specs.Terms.{Checked, DiskName, Disks, Each, Entry, IsFree, IsLonger, IsVoted, KeepsNotes, KeptOn, MayHold, Node, ReplicaKept, ReplicaState, Setting, ShardRow, StaysAs, Store, Topology, WholeSound, records, replica_rows, topology_of, with_row}
 use Rattle.outside.specs.declared.store.DiskName.TheVariants as name
-use Rattle.gate_journal.specs.Gate.{records}
 use Rattle.gate_journal.specs.Opening.{IsOpened}
 use Rattle.topology_journal.specs.declared.topology.Topology.{Topology as KeptTopology}
 use Rattle.topology_journal.specs.Topologies as journal
-use Rattle.time_shards.specs.declared.ShardRow.{ShardRow}
 use Rattle.paxos_acceptor.specs.declared.notes.ReplicaNote.{ReplicaNote}
 use Rattle.air_bus.specs.declared.entry.Entry.{Entry as BusEntry}
-use Rattle.turn_defs.specs.declared.node.Node.{Node}
-use Rattle.turn_defs.specs.Setting.{Setting, Checked}
-use Rattle.site_node.specs.States.{MayHold}
-use Rattle.turn_defs.specs.Replica.{ReplicaKept}
 use Rattle.site_node.specs.Replicas.{kept_of as notes_kept}
-use Rattle.site_node.specs.Replicas.{ReplicaState, IsVoted, KeptOn, replica_rows}
-use Rattle.gate_journal.specs.Images.{StaysAs}
-use Rattle.site_node.specs.Replicas.{KeepsNotes}
 use Rattle.photon_model.specs.Sound.{SoundStore}
-use Rattle.photon_model.specs.Runs.{Entry, Disks}
-use Rattle.photon_model.specs.Topology.{Topology, topology_of, Store, WholeSound}
-use Rattle.photon_model.specs.Stores.{IsLonger}
-use Rattle.photon_model.specs.Adding.{with_row, IsFree}
 use Rattle.site_laws.specs.Kinds.{StateOf}
 use Rattle.site_laws.specs.Laws.{IsRunOf, MayLeave}
 use Rattle.site_laws.specs.Stores.{Bytes, Images, IsDisk, IsChoice, KeepsTopology, KeepsVotes, KeepsOf, HoldsRecords, IsFit, KeepSound, IsSoundStore, AreLeft, SameRecords, AreKept}

@@ -1,7 +1,6 @@
 -- What a stop may leave of the disks of a store, and when that is sound.
 use Rattle.std.specs.Prelude.{◌≡◌, ◌≢◌, ◌⊎◌, ℕ, ◌+◌, ◌*◌, ◌<◌, true, List, [], Option, None, Some, IfSome, option_map, ⊤}
-use Rattle.list_words.specs.Lists.{Each}
-use Rattle.outside.specs.declared.store.DiskName.{DiskName}
+use Rattle.site_laws.specs.Terms.{DiskName, Disks, Dispatcher, Each, IsKeptIn, IsNode, IsVoted, Joiner, MayHold, Node, OnDisk, Replica, ReplicaKept, Server, Setting, Store, Topology, WholeSound, first_joiner, topology_of}
 use Rattle.outside.specs.declared.store.DiskName.TheVariants as name
 use Rattle.gate_journal.specs.Gate as gate
 use Rattle.topology_journal.specs.Topologies as journal
@@ -9,16 +8,6 @@ use Rattle.offset_journal.specs.Offsets.{Keeps as KeepsOffset}
 use Rattle.retry_log.specs.Pending.{Keeps as KeepsPending}
 use Rattle.epoch_journal.specs.Epochs.{Keeps as KeepsEpoch}
 use Rattle.output_log.specs.Pairs.{Keeps as KeepsPairs}
-use Rattle.turn_defs.specs.declared.node.Node.{Node}
-use Rattle.turn_defs.specs.declared.node.Node.TheVariants.{Dispatcher, Server, Replica, Joiner}
-use Rattle.turn_defs.specs.Setting.{Setting, first_joiner}
-use Rattle.turn_defs.specs.Nodes.{IsNode}
-use Rattle.turn_defs.specs.Replica.{ReplicaKept}
-use Rattle.site_node.specs.Replicas.{IsVoted, OnDisk}
-use Rattle.site_node.specs.States.{MayHold}
-use Rattle.gate_journal.specs.Images.{IsKeptIn}
-use Rattle.photon_model.specs.Runs.{Disks}
-use Rattle.photon_model.specs.Topology.{Topology, topology_of, Store, WholeSound}
 use Rattle.site_laws.specs.Kinds.{KeptOf, StateOf, rows_of, kept_of}
 
 -- ---- the disks of a setting

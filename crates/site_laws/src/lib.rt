@@ -5,8 +5,7 @@
 pub mod stores;
 
 ghost use Rattle.std.specs.Prelude.{◌≡◌, ◌≤◌, ℕ, None};
-ghost use Rattle.turn_defs.specs.Nodes.{node_count, node_of};
-ghost use Rattle.turn_defs.specs.Setting.{Setting};
+ghost use Rattle.site_laws.specs.Terms.{Setting, node_count, node_of};
 ghost use Rattle.site_laws.specs.Example.{DispatcherComesUp, DownIsStrict};
 ghost use Rattle.site_laws.specs.Laws.{AiredIsRun, LeftIsImage, LeftIsRun, LeftIsWhole};
 ghost use Rattle.site_laws.specs.Rest.{StatesAreQuiet, StatesRest};

@@ -1,7 +1,6 @@
 // When a store is sound, by what a stop now may leave of its disks, and what keeps it so: disks that are opened, the
 // topology's record, a row more, a run of both sites, longer logs.
-ghost use Rattle.outside.specs.declared.store.DiskName.{DiskName};
-ghost use Rattle.turn_defs.specs.Setting.{Setting};
+ghost use Rattle.site_laws.specs.Terms.{DiskName, Setting};
 ghost use Rattle.site_laws.specs.Stores.{IsSoundStore};
 ghost use Rattle.site_laws.specs.StoreLaws.{HoldSameRecords, KeepOneTopology, LeavesNothing, LeftIsHeld, LongerStaysSound, OpenedIsWhole, ReadNotesAreKept, ReadTopologyIsKept, RowIsSound, RunStaysSound, SameIsSound, SameIsWhole, StatesKeepVotes, StaysSound, TopologyFits, TopologyIsFirst, WrittenIsSound};
 ghost use Rattle.site_laws.specs.StoreExample.{SoundBytes};

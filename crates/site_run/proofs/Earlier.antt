@@ -1,6 +1,5 @@
 -- From a store that was placed to the one before.
-use Rattle.std.specs.Prelude.{Result, Err}
-use Rattle.std.proofs.Common.{ℕ, List, Option, None}
+use Rattle.std.proofs.Common.{ℕ, List, Option, None, Result, Err}
 use Rattle.site_run.proofs.Words.{Within, DiskName, Setting, Images, opened_same, RunFault, IsWelcome, IsCauseOf, LeavesSomething, Outcome, RunLog, RunsOver, IfErr-weaker}
 use Rattle.site_run.proofs.Entered.{rest_earlier, run_earlier, sound_placed, welcome_where}
 use Rattle.site_run.proofs.Outing.{goes_on_through, goes_on_within}

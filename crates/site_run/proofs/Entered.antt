@@ -1,6 +1,5 @@
 -- What a run leaves, by what its parts do.
-use Rattle.std.specs.Prelude.{IfSome, IsSomeAnd, IfOk}
-use Rattle.std.proofs.Common.{◌≡◌, inl, ℕ, List, [], ◌∷◌, ◌++◌, Option, None, Some, Result, Ok, Err, refl, sym, subst, arith}
+use Rattle.std.proofs.Common.{◌≡◌, inl, ℕ, List, [], ◌∷◌, ◌++◌, Option, None, Some, Result, Ok, Err, refl, sym, subst, arith, IfSome, IsSomeAnd, IfOk}
 use Rattle.site_run.proofs.Words.{KeptDisk, AreRecordsOf, Each, Mem, mem_left, mem_right, each_at, each_from, each_more, each_append, DiskName, StoreFault, BusEntry, IsQueryLog, Setting, Checked, IsLogOf, Disks, topology_of, Store, WholeSound, ReadIsChecked, RunFault, IsCounted, IsWelcome, of_place, IsKeptIn, Images, AreLeft, IsSoundStore, SameRecords, RunStaysSound, Journals, Outcome, RunLog, Config, AreLogsOf, IsSettingOf, IsSettingOver, HasRun, HasRested, RunLeft, RestLeft}
 use Rattle.outside.specs.declared.faults.StoreFault.TheVariants as store
 

@@ -1,6 +1,5 @@
 -- How far a node's epoch rises: by one at each of its starts, and it starts no more often than it has stopped, and once more.
-use Rattle.std.proofs.Common.{◌≡◌, inl, ⊎_elim, ℕ, suc, ◌+◌, ◌≤◌, List, [], ◌∷◌, ◌++◌, true, Option, None, Some, refl, sym, ap, ◌∙◌, subst, arith}
-use Rattle.std.proofs.lemmas.Bool.{eqb-true}
+use Rattle.std.proofs.Common.{◌≡◌, inl, ⊎_elim, ℕ, suc, ◌+◌, ◌≤◌, List, [], ◌∷◌, ◌++◌, true, Option, None, Some, refl, sym, ap, ◌∙◌, subst, arith, eqb-true}
 use Rattle.air_bus.specs.declared.entry.Input.TheVariants.{Start}
 use Rattle.photon_model.proofs.ServerRows as serving
 use Rattle.photon_model.proofs.Words.{Phase, Proposal, accepted, joiner_turn, server_turn}

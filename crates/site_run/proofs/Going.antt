@@ -1,6 +1,5 @@
 -- Disks that have gone on, step by step and place by place.
-use Rattle.std.proofs.Common.{◌≡◌, ℕ, zero, suc, ◌+◌, ◌<◌, List, [], ◌∷◌, length, refl, ◌∙◌, subst, arith}
-use Rattle.std.specs.Prelude.{slice_index_or}
+use Rattle.std.proofs.Common.{◌≡◌, ℕ, zero, suc, ◌+◌, ◌<◌, List, [], ◌∷◌, length, refl, ◌∙◌, subst, arith, slice_index_or}
 use Rattle.site_run.proofs.Words.{Continues, continues_same, continues_through, Node, Setting, IsNode, NumbersAreNodes, node_number, node_count, Lent, EachWith, each_same, each_with_append, all_from, of_dispatcher, of_server, of_replica, of_joiner, Reached, OneOf, HasGoneOn, HaveGoneOn, Config}
 use Rattle.site_workers.specs.FourKinds as one
 

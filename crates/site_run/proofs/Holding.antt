@@ -1,6 +1,5 @@
 -- The disks of a node that stands at a state hold what the state says.
-use Rattle.std.proofs.Common.{◌≡◌, ◌⊎◌, inl, inr, ℕ, Bool, ◌&&◌, List, [], ◌∷◌, ◌+◌, ◌-◌, refl, ap, arith}
-use Rattle.std.specs.Prelude.{IsTrue}
+use Rattle.std.proofs.Common.{◌≡◌, ◌⊎◌, inl, inr, ℕ, Bool, ◌&&◌, List, [], ◌∷◌, ◌+◌, ◌-◌, refl, ap, arith, IsTrue}
 use Rattle.outside.specs.declared.store.DiskName.TheVariants as name
 use Rattle.site_run.proofs.Words.{Each, IsVoted, DiskName, Node, Dispatcher, Server, Replica, Joiner, node_number, State, MayHold, DispatcherState, ServerKept, ServerLive, SiteKept, ServerState, ReplicaState, JoinerState, StateOf, server_rows, OneOf, AnyState, any_of, with_site, StatesKeepVotes, HoldsAs, Config}
 use Rattle.dispatch_node.specs.Images as dispatcher

@@ -1,6 +1,6 @@
 -- What the journals of a run that has come to rest say is the report of what its disks keep.
 use Rattle.std.proofs.Common.{◌≡◌, ◌⊎◌, inl, inr, ℕ, zero, suc, List, [], refl, ap, ◌∙◌, subst, arith}
-use Rattle.site_run.proofs.Words.{All-nil, Mem, EventId, IsTable, Insert, bound_of, DiskName, ClickLine, ReportLine, M, BusEntry, IsPair, Setting, Checked, values_from, World, Disks, disks, world_after, opening, WholeSound, SoundStore, IsMissing, inserts_of, known_of, HasBounds, IsBoundOk, RestLeaves, RestIsDone, AtRestFromEmpty, ClicksAreExact, ReportIsExact, TellsTheMissing, RunsKeepStores, empty_disks, empty_store, TellsTheReport, Journals, Images, IsDisk, KeepsOf, IsSoundStore, SameRecords, KeepOneTopology, HoldSameRecords, LeavesNothing, same_is_whole, opened_whole, HasRested, RestLeft, lines_by, AreLinesBy, IsAcceptedBound, WasHeld, Joins, JoinsAfresh, RanAfresh, decided_by, JoinerStopped, NoneStops}
+use Rattle.site_run.proofs.Words.{All-nil, Mem, EventId, IsTable, Insert, bound_of, DiskName, ClickLine, ReportLine, M, BusEntry, IsPair, Setting, Checked, values_from, World, Disks, disks, world_after, opening, WholeSound, SoundStore, IsMissing, inserts_of, known_of, HasBounds, IsBoundOk, RestLeaves, RestIsDone, AtRestFromEmpty, ClicksAreExact, ReportIsExact, TellsTheMissing, RunsKeepStores, empty_disks, empty_store, TellsTheReport, Journals, Images, KeepsOf, IsSoundStore, SameRecords, KeepOneTopology, HoldSameRecords, LeavesNothing, same_is_whole, opened_whole, HasRested, RestLeft, lines_by, AreLinesBy, IsAcceptedBound, WasHeld, Joins, JoinsAfresh, RanAfresh, decided_by, JoinerStopped, NoneStops}
 use Rattle.outside.specs.declared.store.DiskName.TheVariants as name
 use Rattle.log_records.specs.Report as logs
 use Rattle.photon_model.specs.Report as kept

@@ -1,6 +1,5 @@
 -- What is left of the disks of all nodes keeps what their states say.
-use Rattle.std.proofs.Common.{◌≡◌, ◌≢◌, ⊎_elim, ℕ, List, ◌∷◌, Option, Some, None, sym, ap, ◌∙◌, subst, arith}
-use Rattle.std.specs.Prelude.{slice_index_or}
+use Rattle.std.proofs.Common.{◌≡◌, ◌≢◌, ⊎_elim, ℕ, List, ◌∷◌, Option, Some, None, sym, ap, ◌∙◌, subst, arith, slice_index_or}
 use Rattle.list_words.specs.Lists.{EachPair}
 use Rattle.site_run.proofs.Words.{Each, Mem, some_same, each_at, each_from, DiskName, Node, Setting, IsNode, NumbersAreNodes, node_number, Lent, Lacks, IsOfOne, StateOf, all_from, Images, IsDisk, AreKept, KeepsFor, node_with, at_name, named_mem, one_named, AllHold, IsLeftBy, KeepsItsRecord}
 use Rattle.outside.specs.declared.store.DiskName.TheVariants as name

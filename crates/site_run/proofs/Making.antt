@@ -1,6 +1,5 @@
 -- A node more is made of what there is.
-use Rattle.std.proofs.Common.{◌≡◌, ◌≢◌, ◌⊎◌, inl, inr, ℕ, suc, ◌+◌, ◌*◌, ◌<◌, ◌≤◌, Bool, IsTrue, List, [], ◌∷◌, ◌++◌, length, map, Some, None, refl, sym, ap, ◌∙◌, subst, append_assoc, length-append, arith}
-use Rattle.std.specs.Prelude.{Option}
+use Rattle.std.proofs.Common.{◌≡◌, ◌≢◌, ◌⊎◌, inl, inr, ℕ, suc, ◌+◌, ◌*◌, ◌<◌, ◌≤◌, Bool, IsTrue, List, [], ◌∷◌, ◌++◌, length, map, Some, None, refl, sym, ap, ◌∙◌, subst, append_assoc, length-append, arith, Option}
 use Rattle.std.proofs.lemmas.List.{map-append}
 use Rattle.site_run.proofs.Words.{Config, append-nil, length-map, IsPermutation, IsPermutation-map, IsPermutation-trans, IsPermutation-append_comm, IsPermutation-append_left, IsPermutation-append_right, IsPermutation-cons, IsPermutation-sym, IsPermutation-to_front, length_permutation, Each, each_more, Mem, other_names, Setting, AreKeptPlaces, IsLogOf, IsQueryLog, Disks, Lent, OpenView, Says, each_map, each_unmap, kept_by, lent_all, LentDisk, as_lent, all_from, AnyState, AllAt, IsUpAt, IsDownAt, AreFrom, IsStart, IsRunnable, IsTakenFrom, Makes, StockView, lent_by, cases_lt, clicks_from, count_of, disks_from, disks_in, logs_in, number_of, queries_from}
 use Rattle.site_run.proofs.Lists.{all_at_more, all_last, no_items}

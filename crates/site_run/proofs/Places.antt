@@ -1,6 +1,5 @@
 -- Lists that are put together place by place, and whose disk a name is.
-use Rattle.std.proofs.Common.{◌≡◌, ◌≢◌, ⊎_elim, ℕ, zero, suc, ◌+◌, ◌<◌, List, [], ◌∷◌, length, Some, None, subst, arith}
-use Rattle.std.specs.Prelude.{slice_index_or}
+use Rattle.std.proofs.Common.{◌≡◌, ◌≢◌, ⊎_elim, ℕ, zero, suc, ◌+◌, ◌<◌, List, [], ◌∷◌, length, Some, None, subst, arith, slice_index_or}
 use Rattle.list_words.specs.Lists.{EachPair}
 use Rattle.site_run.proofs.Words.{Mem, mem_left, mem_right, mem_split, DiskName, Node, Setting, IsNode, Config, IsDisk, joiner_of, is_joiner, node_with, site_of, place_at, all_from}
 use Rattle.outside.specs.declared.store.DiskName.TheVariants as name

@@ -1,7 +1,5 @@
 -- A run by the stops that are planned for the disks of its nodes.
-use Rattle.std.specs.Prelude.{IfErr, IfSome, Result}
-use Rattle.std.specs.List.{All}
-use Rattle.std.proofs.Common.{◌≡◌, ◌≢◌, ℕ, ◌+◌, ◌<◌, ◌≤◌, Bool, false, List, [], ◌∷◌, length, map, Option, None, Some, slice_index_or, refl, sym, ◌∙◌, ap, subst, arith}
+use Rattle.std.proofs.Common.{◌≡◌, ◌≢◌, ℕ, ◌+◌, ◌<◌, ◌≤◌, Bool, false, List, [], ◌∷◌, length, map, Option, None, Some, slice_index_or, refl, sym, ◌∙◌, ap, subst, arith, IfErr, IfSome, Result, All}
 use Rattle.outside.specs.Plans.{AtMost}
 use Rattle.outside.specs.declared.store.DiskName.{DiskName}
 use Rattle.outside.specs.declared.store.DiskName.TheVariants as name

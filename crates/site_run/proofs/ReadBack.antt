@@ -1,6 +1,5 @@
 -- What is read back of the disks of nodes at rest is the nodes' records.
-use Rattle.std.proofs.Common.{◌≡◌, ℕ, zero, suc, ◌+◌, ◌-◌, ◌*◌, ◌<◌, ◌≤◌, List, [], ◌∷◌, ◌++◌, length, map, drop, slice_index_or, Bool, false, cond, IsTrue, Option, None, Some, refl, sym, ap, ◌∙◌, subst, arith, lit<, lit≤, append_assoc}
-use Rattle.std.specs.Prelude.{filter}
+use Rattle.std.proofs.Common.{◌≡◌, ℕ, zero, suc, ◌+◌, ◌-◌, ◌*◌, ◌<◌, ◌≤◌, List, [], ◌∷◌, ◌++◌, length, map, drop, slice_index_or, Bool, false, cond, IsTrue, Option, None, Some, refl, sym, ap, ◌∙◌, subst, arith, lit<, lit≤, append_assoc, filter}
 use Rattle.site_run.proofs.Words.{All-nil, append-nil, filter-append, DiskName, ReplicaNote, note_view, PairRec, KeepsPairs, IsPair, Node, Replica, Joiner, Setting, first_joiner, IsNode, NumbersAreNodes, node_count, node_number, node_of, Config, BallotNote, ReplicaKept, notes_kept, journals_of, values_from, Disks, AreOf, Lent, KeepsNotes, StateOf, KeptOf, kept_of, all_from, EachWith, is_replica, is_output, each_with_append, Journals, notes_of, KeepsVotes, HoldsRecords, HoldSameRecords, ReadNotesAreKept, KeepsFor, KeepsAs, AllKeep, lent_replicas, lent_outputs, AreKeptIn}
 use Rattle.outside.specs.declared.store.DiskName.TheVariants as name
 use Rattle.site_laws.specs.Stores.{Bytes}

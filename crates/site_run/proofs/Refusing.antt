@@ -1,6 +1,5 @@
 -- Why a run over a store gives up, from what opening it tells and what a run of its nodes does.
-use Rattle.std.specs.Prelude.{IsTrue, IfSome, IsSomeAnd, Result, Ok, Err, OnOk, IfErr}
-use Rattle.std.proofs.Common.{◌≡◌, ◌≢◌, inl, inr, ⊎_elim, ℕ, List, [], ◌∷◌, map, Bool, true, Option, Some, None, refl, sym, ◌∙◌, ap, subst, arith}
+use Rattle.std.proofs.Common.{◌≡◌, ◌≢◌, inl, inr, ⊎_elim, ℕ, List, [], ◌∷◌, map, Bool, true, Option, Some, None, refl, sym, ◌∙◌, ap, subst, arith, IsTrue, IfSome, IsSomeAnd, Result, Ok, Err, OnOk, IfErr}
 use Rattle.site_run.proofs.Words.{eq-eqb, Each, Mem, each_at, BusEntry, DiskName, StoreFault, Topology, end_from, Dispatcher, Server, Replica, Joiner, Node, IsNode, node_number, Setting, IsLogOf, Disks, RunFault, Misplaced, IsCounted, IsWelcome, of_place, limit_at, limit_in, IsKeptIn, IsJournalOf, other_names, Images, IsDisk, joiner_of, place_at, site_of, IsAsked, EpochIs, KeepsEpoch, KeptDisk, KeptEpoch, KeptValues, Says, AreRecordsOf, all_named, at_name, was_journal, AreTold, ArePassed, IsCause, cause_more, failed_rose, passed_more, unread_rose, asked_of, HasPassed, IsCauseOf, IsLate, IsNearLast, IsOfRun, IsSpent, KeptAreJournals, NamesFailed, RunLog, TellsPlaces, disk_of}
 use Rattle.outside.specs.declared.store.DiskName.TheVariants as name
 use Rattle.outside.specs.declared.faults.StoreFault.TheVariants as store

@@ -1,6 +1,5 @@
 -- From what a run leaves of each node to what it leaves of the store.
-use Rattle.std.specs.Prelude.{IsTrue, IsSome, option_map}
-use Rattle.std.proofs.Common.{◌≡◌, ◌≢◌, inl, inr, ⊎_elim, ℕ, zero, suc, ◌+◌, ◌<◌, ◌≤◌, List, [], ◌∷◌, ◌++◌, length, map, slice_index_or, Bool, true, false, Option, None, Some, refl, sym, ap, ◌∙◌, subst, arith, length-append}
+use Rattle.std.proofs.Common.{◌≡◌, ◌≢◌, inl, inr, ⊎_elim, ℕ, zero, suc, ◌+◌, ◌<◌, ◌≤◌, List, [], ◌∷◌, ◌++◌, length, map, slice_index_or, Bool, true, false, Option, None, Some, refl, sym, ap, ◌∙◌, subst, arith, length-append, IsTrue, IsSome, option_map}
 use Rattle.site_run.proofs.Words.{length-map, list_any, Mem, some_same, is_in_turn, DiskName, NamesFailed, disk_of, is_read, BusEntry, Bytes, Busy, Node, Dispatcher, Setting, IsNode, NumbersAreNodes, node_number, node_count, phase_by, NodeFault, World, Disks, disks, world_after, opening, NoJoinerStops, AreOf, RunFault, damaged_by, IsJournalOf, undamaged, Lent, IsOfOne, MayBeLeft, GoesOn, StateOf, kept_of, cell_of, made_by, HasMet, IsCaused, is_stop, stop_count, AreCaused, HasFault, AnyState, any_of, any_phase, IsRunFrom, HaveGrown, ComesToLast, all_from, topology_of, Images, IsDisk, AreKept, KeepsOf, node_with, KeepsTopology, Journals, Config, journal_of, by_topology, IsCounted, of_node, IsOfDisks, IsOfRun, IsSpent, RunLog, HoldsAs, HaveGoneOn, AllHold, AreHeld, AreMet, IsLeftBy, KeepsItsRecord, NoneStops, HasRun, HasRested, AreOut, IsClosed, KeepsAs, AllKeep, KeepsPairs, KeepsNotes, HoldSameRecords, ReadNotesAreKept, told_of, or_else, first_fault, lent_replicas, lent_outputs, AreKeptIn}
 use Rattle.outside.specs.declared.store.DiskName.TheVariants as name
 use Rattle.site_node.specs.declared.kind.NodeFault.TheVariants as node

@@ -1,6 +1,5 @@
 -- Disks that were read back, and are given back then.
-use Rattle.std.specs.Prelude.{IsTrue, filter, if◌then◌else◌, Result, Ok, Err, IfOk, IfErr, OnOk}
-use Rattle.std.proofs.Common.{◌≡◌, ◌≢◌, inl, inr, ⊎_elim, ℕ, zero, suc, ◌≤◌, length, take, drop, List, [], ◌∷◌, ◌++◌, map, Bool, true, false, refl, sym, ap, ◌∙◌, subst, arith}
+use Rattle.std.proofs.Common.{◌≡◌, ◌≢◌, inl, inr, ⊎_elim, ℕ, zero, suc, ◌≤◌, length, take, drop, List, [], ◌∷◌, ◌++◌, map, Bool, true, false, refl, sym, ap, ◌∙◌, subst, arith, IsTrue, filter, if◌then◌else◌, Result, Ok, Err, IfOk, IfErr, OnOk}
 use Rattle.site_run.proofs.Words.{append-nil, Mem, Each, DiskName, RunFault, damaged_by, Lent, Lacks, IsOfOne, MayBeLeft, LentDisk, EachWith, OneWith, AreReadFrom, IsOnlyRead, IsToldBy, AreAmongImages, as_lent, IsOfDisks, AreKeptIn, AreUp}
 use Rattle.site_run.specs.Causes.{IsReadBack}
 use Rattle.run_fault.specs.declared.fault.StorePlace.{StorePlace}

@@ -1,6 +1,5 @@
 -- From what a run leaves of each node to the run of the whole system.
-use Rattle.std.specs.Prelude.{IsTrue, fold}
-use Rattle.std.proofs.Common.{◌≡◌, ◌≢◌, ℕ, ◌≤◌, ◌<◌, List, [], ◌∷◌, length, slice_index_or, Bool, true, false, Option, Some, None, refl, sym, ap, ◌∙◌, subst, arith}
+use Rattle.std.proofs.Common.{◌≡◌, ◌≢◌, ℕ, ◌≤◌, ◌<◌, List, [], ◌∷◌, length, slice_index_or, Bool, true, false, Option, Some, None, refl, sym, ap, ◌∙◌, subst, arith, IsTrue, fold}
 use Rattle.site_run.proofs.Lists.{some_of}
 use Rattle.site_run.proofs.Words.{get_or_default, Begin, End, Stop, Entry, Phase, is_begin, is_in_turn, Idle, Busy, Bytes, Kind, PlanView, IsAired, phase, is_dead, Node, Dispatcher, Server, Replica, Joiner, Setting, IsNode, NumbersAreNodes, node_number, node_of, node_count, NodeDisk, NodeFault, Damaged, Spent, Rows, State, state_phase, phase_by, dispatcher_at_rest, joiner_at_rest, server_at_rest, Disks, UpWith, StateOf, rows_of, down_over, RestsAt, StatesRest, made_by, EachWalked, IsRunOf, AiredIsRun, Chosen, choose, StandsAt, LeadsOn, GrowsOn, Reached, Rests, AnyState, any_of, any_phase, any_rests, IsAtLast, IsMeant, AreDownOver, DeadAreReplicas, IsRunFrom, HaveGrown}
 use Rattle.site_run.proofs.Epochs.{comes_to_last}

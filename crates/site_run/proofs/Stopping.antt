@@ -1,6 +1,5 @@
 -- Where no joiner's entries have a stop, the run has none.
-use Rattle.std.proofs.Common.{◌≡◌, ℕ, Bool, true, ◌||◌, List, [], ◌∷◌, refl, sym, ap, ◌∙◌, eq-eqb, arith}
-use Rattle.std.specs.Prelude.{if◌then◌else◌}
+use Rattle.std.proofs.Common.{◌≡◌, ℕ, Bool, true, ◌||◌, List, [], ◌∷◌, refl, sym, ap, ◌∙◌, eq-eqb, arith, if◌then◌else◌}
 use Rattle.site_run.proofs.Words.{list_any, BusEntry, is_of, Joiner, Setting, NumbersAreNodes, NoJoinerStops, AllMean, made_by, is_stop, NoJoinerStopped, NoneStops}
 use Rattle.air_bus.specs.declared.entry.Entry.TheVariants as bus
 use Rattle.photon_model.specs.Runs.{Entry, Stop}

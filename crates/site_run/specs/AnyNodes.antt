@@ -1,29 +1,16 @@
 -- Nodes of all four kinds as one kind, and where they stand.
 use Rattle.std.proofs.Common.{◌≡◌, ◌⊎◌, inl, inr, ℕ, Bool, List, Option, None, Some}
-use Rattle.ballot_core.specs.declared.TheConstants.{LAST_EPOCH}
+use Rattle.site_run.specs.Terms.{Begin, Dispatcher, Input, Joiner, JoinerState, LAST_EPOCH, Leads, LeadsTo, Node, Path, Replica, ReplicaState, Says, Server, ServerState, Setting, Start, State, StateOf, joiner_phase, replica_rows, server_rows, spends_of, spent_at, state_phase}
 use Rattle.air_bus.specs.declared.entry.Entry.{Entry}
-use Rattle.air_bus.specs.declared.entry.Entry.TheVariants.{Begin}
-use Rattle.air_bus.specs.declared.entry.Input.{Input}
-use Rattle.air_bus.specs.declared.entry.Input.TheVariants.{Start}
-use Rattle.turn_defs.specs.declared.node.Node.{Node}
-use Rattle.turn_defs.specs.declared.node.Node.TheVariants.{Dispatcher, Server, Replica, Joiner}
 use Rattle.air_bus.specs.declared.entry.Phase.{Phase}
-use Rattle.turn_defs.specs.Setting.{Setting}
-use Rattle.site_node.specs.States.{State, Leads, Says, state_phase}
 use Rattle.turn_defs.specs.Dispatcher.{dispatcher_at_rest}
 use Rattle.turn_defs.specs.Joiner.{joiner_at_rest}
 use Rattle.dispatch_node.specs.Node as dispatcher
 use Rattle.dispatch_node.specs.Node.{DispatcherState, SiteLeads, says}
 use Rattle.turn_defs.specs.Server.{ServerKept, ServerLive, server_at_rest}
-use Rattle.registry_server.specs.Node.{ServerState, spent_at}
-use Rattle.registry_server.specs.Registrars.{server_rows}
 use Rattle.turn_defs.specs.Replica.{replica_at_rest}
 use Rattle.replica_node.specs.Node as replica
-use Rattle.site_node.specs.Replicas.{ReplicaState, replica_rows}
-use Rattle.joiner_node.specs.Node.{JoinerState, LeadsTo, joiner_phase, spends_of}
-use Rattle.site_laws.specs.Kinds.{StateOf}
 use Rattle.site_workers.specs.FourKinds as one
-use Rattle.site_workers.specs.Works.{Path}
 
 abbrev pub AnyState : Type 0
 AnyState = (DispatcherState ⊎ ServerState) ⊎ (ReplicaState ⊎ JoinerState)

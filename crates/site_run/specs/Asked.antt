@@ -1,11 +1,7 @@
 -- The setting of a run: what is asked for, and what the logs hold.
 use Rattle.std.specs.Prelude.{◌≡◌, ℕ, List, Option, IsSomeAnd}
-use Rattle.list_words.specs.Lists.{Each}
+use Rattle.site_run.specs.Terms.{Config, Each, IsLogOf, Setting, end_from}
 use Rattle.log_records.specs.Check.{IsQueryLog}
-use Rattle.log_records.specs.Lines.{end_from}
-use Rattle.turn_defs.specs.Setting.{Setting}
-use Rattle.dispatch_node.specs.Places.{IsLogOf}
-use Rattle.turn_defs.specs.declared.config.Config.{Config}
 
 -- The setting has this config, and the records of the logs of these names, which are valid; the last whole line of the clicks
 -- ends there. Here told says what bytes are under a name.

@@ -1,23 +1,11 @@
 -- Why a run gives up.
 use Rattle.std.specs.Prelude.{◌≡◌, ℕ, ◌+◌, ◌-◌, nat_lt, if◌then◌else◌, List, Bool, true, IsTrue}
-use Rattle.list_words.specs.Lists.{Mem}
-use Rattle.outside.specs.declared.store.DiskName.{DiskName}
+use Rattle.site_run.specs.Terms.{Clicks, Config, DiskName, First, IsOfDisk, IsOfOne, Lent, LogName, Mem, NodeDisk, NodeFault, Queries, RunFault, damaged_by, is_read}
 use Rattle.outside.specs.declared.store.DiskName.TheVariants as name
-use Rattle.run_fault.specs.declared.fault.LogName.{LogName}
-use Rattle.run_fault.specs.declared.fault.LogName.TheVariants.{Queries, Clicks}
 use Rattle.run_fault.specs.declared.fault.StorePlace.TheVariants as place
-use Rattle.run_fault.specs.declared.fault.RunFault.{RunFault}
 use Rattle.run_fault.specs.declared.fault.RunFault.TheVariants as fault
-use Rattle.run_fault.specs.Causes.{IsOfDisk}
-use Rattle.site_store.specs.Kinds.{damaged_by}
-use Rattle.site_store.specs.Lent.{Lent, IsOfOne}
-use Rattle.site_store.specs.ReadBack.{is_read}
 use Rattle.site_node.specs.Faults.{of_two}
-use Rattle.site_node.specs.declared.kind.NodeDisk.{NodeDisk}
-use Rattle.site_node.specs.declared.kind.NodeDisk.TheVariants.{First}
-use Rattle.site_node.specs.declared.kind.NodeFault.{NodeFault}
 use Rattle.site_node.specs.declared.kind.NodeFault.TheVariants as node
-use Rattle.turn_defs.specs.declared.config.Config.{Config}
 use Rattle.site_run.specs.Naming.{site_of, joiner_of}
 
 -- ---- what is told of a fault below

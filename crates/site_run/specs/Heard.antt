@@ -1,8 +1,7 @@
 -- What is heard of a run of both sites.
 use Rattle.std.specs.Prelude.{ℕ, ◌*◌, List, [], ◌∷◌, ◌++◌, replicate}
-use Rattle.lossy_link.specs.declared.plan.Kind.{Kind}
+use Rattle.site_run.specs.Terms.{Kind, PlanView}
 use Rattle.lossy_link.specs.declared.plan.Kind.TheVariants.{Dispatcher, Joiner, Server, Replica}
-use Rattle.lossy_link.specs.Fates.{PlanView}
 use Rattle.site_workers.specs.Heard.{IsHeard}
 use Rattle.site_run.specs.declared.ran.RunLog.{RunLog}
 

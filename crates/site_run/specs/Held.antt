@@ -1,15 +1,7 @@
 -- What the disks of nodes hold, each under the name that its node's number gives it.
 use Rattle.std.specs.Prelude.{◌≡◌, ℕ, List, map}
-use Rattle.list_words.specs.Lists.{Each}
-use Rattle.turn_defs.specs.declared.config.Config.{Config}
-use Rattle.turn_defs.specs.declared.node.Node.{Node}
-use Rattle.site_node.specs.States.{MayHold}
-use Rattle.site_store.specs.Lent.{Lent}
-use Rattle.gate_journal.specs.Images.{GoesOn}
-use Rattle.site_laws.specs.Kinds.{KeptOf, StateOf, rows_of}
-use Rattle.site_store.specs.ReadBack.{EachWith}
+use Rattle.site_run.specs.Terms.{Bytes, Config, Each, EachWith, GoesOn, KeepsFor, KeptOf, Lent, MayHold, Node, StateOf, rows_of}
 use Rattle.site_run.specs.Naming.{names_of}
-use Rattle.site_laws.specs.Stores.{Bytes, KeepsFor}
 
 module _ {D : Type 0} (image : D → List ℕ → Type 0) where
   -- These are the disks of a node of that state, under the names of its number. Bytes that a stop may leave of each keep records that the

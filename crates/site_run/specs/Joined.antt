@@ -1,31 +1,20 @@
 -- What a join of both sites over a store comes to, once all nodes rest.
 use Rattle.std.specs.Prelude.{◌≡◌, ◌⊎◌, ℕ, ◌<◌, ◌≤◌, List, [], map, Some}
-use Rattle.list_words.specs.Lists.{Mem}
+use Rattle.site_run.specs.Terms.{AreLeft, ClickLine, DiskName, Disks, Entry, Images, IsAtRest, IsDisk, IsRunOf, KeepsOf, Mem, Node, ReportLine, Setting, StateOf, Store, disks, opening, shard, shards, world_after}
 use Rattle.event_id.specs.declared.id.EventId.{EventId}
 use Rattle.registry_state.specs.declared.Token.{Token}
 use Rattle.registry_state.specs.declared.Batch.{Batch}
 use Rattle.registry_state.specs.LookBack.{bound_of, holder}
 use Rattle.ballot_core.specs.declared.Ballot.{Ballot}
-use Rattle.outside.specs.declared.store.DiskName.{DiskName}
-use Rattle.log_records.specs.Lines.{ClickLine}
 use Rattle.log_records.specs.Report as logs
-use Rattle.log_records.specs.declared.report.ReportLine.{ReportLine}
 use Rattle.paxos_defs.specs.declared.Place.{Place}
 use Rattle.paxos_defs.specs.Notes.Note.{Accepted}
-use Rattle.turn_defs.specs.Setting.{Setting, shard, shards}
 use Rattle.photon_model.specs.Journals.{journals, decided}
 use Rattle.photon_model.specs.Report.{report}
-use Rattle.photon_model.specs.Rest.{IsAtRest}
-use Rattle.photon_model.specs.Runs.{Disks, Entry, disks, opening, world_after}
 use Rattle.photon_model.specs.Sound.{IsDrained, IsMissing, accepted_inserts, known_of}
-use Rattle.photon_model.specs.Topology.{Store}
 use Rattle.photon_model.specs.Exact.{IsExact}
 use Rattle.photon_model.specs.Stores.{empty_disks}
-use Rattle.turn_defs.specs.declared.node.Node.{Node}
 use Rattle.air_bus.specs.declared.entry.Entry.{Entry as BusEntry}
-use Rattle.site_laws.specs.Kinds.{StateOf}
-use Rattle.site_laws.specs.Laws.{IsRunOf}
-use Rattle.site_laws.specs.Stores.{Images, IsDisk, KeepsOf, AreLeft}
 use Rattle.site_run.specs.Laws.{JoinerStopped}
 
 -- the batches that the replicas' records decide in a shard

@@ -1,24 +1,9 @@
 -- Laws on the disks of all nodes of a setting.
 use Rattle.std.specs.Prelude.{◌≡◌, ◌≢◌, ℕ, ◌≤◌, List, ◌∷◌, length, slice_index_or, None, Some, true}
 use Rattle.std.specs.List.{list_any}
-use Rattle.list_words.specs.Lists.{Mem}
-use Rattle.outside.specs.declared.store.DiskName.{DiskName}
+use Rattle.site_run.specs.Terms.{Config, DiskName, Disks, Entry, Images, IsDisk, IsJoiner, IsNode, IsOfOne, IsRunOf, KeepsTopology, Lent, Mem, NoJoinerStops, Node, NodeDisk, Reached, Setting, StateOf, is_stop, made_by, node_count, node_number, topology_of}
 use Rattle.outside.specs.declared.store.DiskName.TheVariants as name
 use Rattle.air_bus.specs.declared.entry.Entry.{Entry as BusEntry}
-use Rattle.turn_defs.specs.declared.config.Config.{Config}
-use Rattle.turn_defs.specs.declared.node.Node.{Node}
-use Rattle.turn_defs.specs.Setting.{Setting, IsJoiner}
-use Rattle.turn_defs.specs.Nodes.{IsNode, node_number, node_count}
-use Rattle.photon_model.specs.Runs.{Entry, Disks}
-use Rattle.photon_model.specs.Topology.{topology_of}
-use Rattle.photon_model.specs.EveryRun.{NoJoinerStops}
-use Rattle.site_store.specs.Lent.{Lent, IsOfOne}
-use Rattle.site_laws.specs.Kinds.{StateOf}
-use Rattle.site_laws.specs.Laws.{IsRunOf, made_by}
-use Rattle.site_workers.specs.Works.{is_stop}
-use Rattle.site_laws.specs.Stores.{Images, IsDisk, KeepsTopology}
-use Rattle.site_workers.specs.Works.{Reached}
-use Rattle.site_node.specs.declared.kind.NodeDisk.{NodeDisk}
 use Rattle.site_node.specs.declared.kind.SiteNode.{Ghosts}
 use Rattle.site_run.specs.AnyNodes.{AnyState, any_of}
 use Rattle.site_run.specs.Held.{HoldsAs, HaveGoneOn}

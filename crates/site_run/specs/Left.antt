@@ -1,20 +1,9 @@
 -- What a run over a store leaves, by what a stop might have left of each disk before it and may leave of it afterwards.
 use Rattle.std.specs.Prelude.{ℕ, List}
-use Rattle.outside.specs.declared.store.DiskName.{DiskName}
+use Rattle.site_run.specs.Terms.{AreKept, AreLeft, AreRecordsOf, DiskName, Disks, Entry, Images, IsAtRest, IsDisk, IsRunOf, Journals, KeepsOf, NoJoinerStops, Node, SameRecords, Setting, StateOf, Store, disks, opening, world_after}
 use Rattle.air_bus.specs.declared.entry.Entry.{Entry as BusEntry}
-use Rattle.turn_defs.specs.declared.node.Node.{Node}
-use Rattle.turn_defs.specs.Setting.{Setting}
-use Rattle.photon_model.specs.Runs.{Entry, Disks, disks, world_after, opening}
-use Rattle.photon_model.specs.Rest.{IsAtRest}
-use Rattle.photon_model.specs.Topology.{Store}
-use Rattle.photon_model.specs.EveryRun.{NoJoinerStops}
 use Rattle.photon_model.specs.Verification.{AreOf}
-use Rattle.site_laws.specs.Kinds.{StateOf}
-use Rattle.site_laws.specs.Laws.{IsRunOf}
-use Rattle.site_laws.specs.Stores.{Images, IsDisk, KeepsOf, AreLeft, AreKept, SameRecords}
-use Rattle.site_store.specs.Records.{AreRecordsOf}
 use Rattle.site_run.specs.declared.ran.RunLog.{RunLog}
-use Rattle.verify_pass.specs.declared.journals.Journals.{Journals}
 
 -- The history is a run of the whole system from these records, and whatever a stop leaves of the disks keeps what their nodes'
 -- states may hold.

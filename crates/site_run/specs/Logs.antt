@@ -1,8 +1,6 @@
 -- The logs of a run.
 use Rattle.std.specs.Prelude.{ℕ, List, ⊤}
-use Rattle.run_fault.specs.declared.fault.LogName.{LogName}
-use Rattle.run_fault.specs.declared.fault.LogName.TheVariants.{Queries, Clicks}
-use Rattle.run_fault.specs.declared.fault.RunFault.{RunFault}
+use Rattle.site_run.specs.Terms.{Clicks, LogName, Queries, RunFault}
 use Rattle.run_fault.specs.declared.fault.RunFault.TheVariants as fault
 use Rattle.site_run.specs.declared.asked.Names.{Names}
 

@@ -1,21 +1,11 @@
 -- Nodes in the making: what those to come are made of.
 use Rattle.std.specs.Prelude.{◌≡◌, ◌<◌, ◌≤◌, ℕ, suc, ◌+◌, ◌-◌, ◌*◌, ◌++◌, Bool, IsTrue, Option, IfSome, List, [], length, map, vec_capacity}
 use Rattle.std.specs.List.Sorted.{IsPermutation}
-use Rattle.list_words.specs.Lists.{Mem, option_or_else}
-use Rattle.outside.specs.declared.store.DiskName.{DiskName}
+use Rattle.site_run.specs.Terms.{AreKeptPlaces, AreRecordsOf, Config, DiskName, Disks, IsRunnable, Lent, LentDisk, Mem, OpenView, Setting, kept_all, lent_all, option_or_else, other_names}
 use Rattle.outside.specs.declared.store.DiskName.TheVariants as name
 use Rattle.outside.specs.declared.disk.Disk as disk
 use Rattle.outside.specs.declared.log.LogFile as log
-use Rattle.turn_defs.specs.Setting.{Setting}
-use Rattle.turn_defs.specs.declared.config.Config.{Config}
-use Rattle.turn_defs.specs.Configs.{IsRunnable}
 use Rattle.site_run.specs.Asked.{AreLogsOf}
-use Rattle.photon_model.specs.Runs.{Disks}
-use Rattle.dispatch_node.specs.Places.{AreKeptPlaces}
-use Rattle.site_store.specs.Lent.{Lent}
-use Rattle.site_store.specs.Records.{AreRecordsOf, OpenView, kept_all, lent_all}
-use Rattle.site_store.specs.Refusals.{other_names}
-use Rattle.site_store.specs.declared.lent.disk.LentDisk.{LentDisk}
 use Rattle.site_run.specs.AnyNodes.{AnyState}
 use Rattle.site_run.specs.Heard.{kinds_of}
 use Rattle.site_run.specs.Naming.{as_lent, count_of, place_of}

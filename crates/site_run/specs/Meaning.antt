@@ -3,14 +3,10 @@
 use Rattle.std.specs.Prelude.{◌≡◌, List, map}
 use Rattle.time_shards.specs.Shards.{IsTable}
 use Rattle.log_records.specs.declared.records.ClickRec.{ClickRec as Click}
-use Rattle.log_records.specs.Lines.{ClickLine}
+use Rattle.site_run.specs.Terms.{Checked, ClickLine, Images, IsSoundStore, Journals, ReportLine, Setting}
 use Rattle.log_records.specs.Report.{distinct}
-use Rattle.log_records.specs.declared.report.ReportLine.{ReportLine}
 use Rattle.air_bus.specs.declared.entry.Entry.{Entry as BusEntry}
-use Rattle.turn_defs.specs.Setting.{Setting, Checked}
-use Rattle.verify_pass.specs.declared.journals.Journals.{Journals}
 use Rattle.verify_pass.specs.Classes.{line_of}
-use Rattle.site_laws.specs.Stores.{Images, IsSoundStore}
 use Rattle.site_laws.specs.StoreLaws.{LeavesNothing}
 use Rattle.site_run.specs.Left.{RestLeft}
 use Rattle.site_run.specs.Joined.{Joins, JoinsAfresh, RanAfresh}

@@ -1,14 +1,7 @@
 -- The disks of nodes, under their names.
 use Rattle.std.specs.Prelude.{◌≡◌, ℕ, suc, ◌+◌, ◌-◌, ◌*◌, nat_lt, if◌then◌else◌, List, [], ◌∷◌, ◌++◌, Option, None, Some}
-use Rattle.outside.specs.declared.store.DiskName.{DiskName}
+use Rattle.site_run.specs.Terms.{Clicks, Config, DiskName, Dispatcher, Joiner, Lent, LentDisk, LogName, Node, Queries, Replica, Server}
 use Rattle.outside.specs.declared.store.DiskName.TheVariants as name
-use Rattle.run_fault.specs.declared.fault.LogName.{LogName}
-use Rattle.run_fault.specs.declared.fault.LogName.TheVariants.{Queries, Clicks}
-use Rattle.turn_defs.specs.declared.node.Node.{Node}
-use Rattle.turn_defs.specs.declared.node.Node.TheVariants.{Dispatcher, Server, Replica, Joiner}
-use Rattle.turn_defs.specs.declared.config.Config.{Config}
-use Rattle.site_store.specs.Lent.{Lent}
-use Rattle.site_store.specs.declared.lent.disk.LentDisk.{LentDisk}
 
 abbrev pub as_lent : {D : Type 0} → LentDisk D → Lent D
 as_lent d = record { name = d.name; disk = d.disk }

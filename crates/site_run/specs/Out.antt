@@ -1,11 +1,7 @@
 -- The disks of a store while they are out.
 use Rattle.std.specs.Prelude.{ℕ, List, ◌∷◌}
-use Rattle.list_words.specs.Lists.{Each}
-use Rattle.outside.specs.declared.store.DiskName.{DiskName}
+use Rattle.site_run.specs.Terms.{DiskName, Each, GoesOn, Images, Lacks, Lent}
 use Rattle.outside.specs.Disk.{Within}
-use Rattle.site_store.specs.Lent.{Lent, Lacks}
-use Rattle.gate_journal.specs.Images.{GoesOn}
-use Rattle.site_laws.specs.Stores.{Images}
 
 -- The topology's disk and the others have gone on from what might have been left of them before; of a disk that is not out a stop
 -- leaves nothing new.

@@ -1,17 +1,12 @@
 -- How a run for a setting ends over a store.
-use Rattle.std.specs.Prelude.{◌≡◌, ◌≢◌, Option, None, Result, IfErr, IfOk, IfSome, IsSomeAnd, OnOk}
-use Rattle.outside.specs.declared.store.DiskName.{DiskName}
+use Rattle.std.specs.Prelude.{◌≡◌, ◌≢◌, ℕ, List, Option, None, Result, IfErr, IfOk, IfSome, IsSomeAnd, OnOk}
+use Rattle.site_run.specs.Terms.{DiskName, Disks, GoesOn, Images, IsSoundStore, IsWelcome, LeavesSomething, Lent, RunFault, SameRecords, Setting, StaysAs}
 use Rattle.outside.specs.declared.store.DiskName.TheVariants as name
-use Rattle.turn_defs.specs.Setting.{Setting}
-use Rattle.gate_journal.specs.Images.{GoesOn, StaysAs}
-use Rattle.site_laws.specs.Stores.{Images, IsSoundStore}
-use Rattle.site_store.specs.Causes.{LeavesSomething}
-use Rattle.run_fault.specs.Causes.{IsWelcome}
-use Rattle.run_fault.specs.declared.fault.RunFault.{RunFault}
 use Rattle.site_run.specs.declared.ran.Outcome.{Outcome}
 use Rattle.site_run.specs.declared.ran.RunLog.{RunLog}
-use Rattle.site_run.specs.Left.{RestLeft, RunLeft}
-use Rattle.site_run.specs.Refused.{HasPassed, IsCauseOf, NamesFailed}
+use Rattle.site_run.specs.Left.{HasRested, HasRun, RestLeft, RunLeft}
+use Rattle.site_run.specs.Out.{AreOut}
+use Rattle.site_run.specs.Refused.{HasPassed, IsCauseOf, IsOfRun, NamesFailed}
 
 -- what a call keeps of a store: where it was sound for the first setting it is for the second, and no disk's records are lost
 pub record Keeps (g h : Setting) (before after : Images) : Type 0 where
@@ -41,3 +36,11 @@ module _ (g : Setting) (before after : Images) (read faulted : Type 0) (ran : Op
     pub left : IfSome ran (RunLeft g before after)
     pub rest : IfOk result (λ outcome. IsSomeAnd ran (λ l. RestLeft g before after l.air.history faulted outcome.journals))
     pub named : IfErr result (λ f. IfSome ran (λ l. NamesFailed g l.air.history f))
+
+-- How a run of nodes ends that were opened over these records, while their disks and the topology's are out. The disks go on from what might
+-- have been left of them, and the history is a run from any records that say the same. What failed is named by it.
+pub record NodesEnd {D S : Type 0} (image : D → List ℕ → Type 0) (store_image : S → Images) (g : Setting) (d : Disks) (old new : S) (topology : Lent D) (others : List (Lent D)) (faulted : Type 0) (ran : Option RunLog) (result : Result Outcome RunFault) : Type 0 where
+  pub grown : (s : S) → AreOut image (store_image s) (store_image old) topology others → (disk : DiskName) → GoesOn (store_image s disk) (store_image new disk)
+  pub left : (e : Disks) → SameRecords g d e → IfSome ran (λ l. HasRun g e l.air.history (store_image new))
+  pub rest : (e : Disks) → SameRecords g d e → IfOk result (λ outcome. IsSomeAnd ran (λ l. HasRested g e l.air.history (store_image new) faulted outcome.journals))
+  pub named : IfErr result (IsOfRun g d faulted ran)

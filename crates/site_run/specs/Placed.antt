@@ -1,10 +1,6 @@
 -- Nodes at the places of their numbers, down over the records of opened journals.
 use Rattle.std.specs.Prelude.{◌≡◌, ◌<◌, ℕ, Bool, false, List, length, slice_index_or}
-use Rattle.turn_defs.specs.declared.node.Node.{Node}
-use Rattle.turn_defs.specs.Setting.{Setting}
-use Rattle.turn_defs.specs.Nodes.{IsNode, node_number}
-use Rattle.photon_model.specs.Runs.{Disks}
-use Rattle.site_laws.specs.Kinds.{down_over}
+use Rattle.site_run.specs.Terms.{Disks, IsNode, Node, Setting, down_over, node_number}
 use Rattle.site_run.specs.AnyNodes.{AnyState, any_of}
 
 -- each of these is so at its place

@@ -1,32 +1,17 @@
 -- Why a run over a store gives up, by what a stop might have left of its disks before it.
 use Rattle.std.specs.Prelude.{◌≡◌, ◌⊎◌, ℕ, ◌+◌, ◌≤◌, List, ◌∷◌, true, Option, None, Some, IsSomeAnd, ⊤}
-use Rattle.ballot_core.specs.declared.TheConstants.{LAST_EPOCH}
-use Rattle.list_words.specs.Lists.{Mem}
-use Rattle.outside.specs.declared.store.DiskName.{DiskName}
+use Rattle.site_run.specs.Terms.{DiskName, Disks, First, HasCause, Images, IsDisk, IsJournalOf, IsKeptIn, IsNode, KeptDisk, KeptValues, LAST_EPOCH, Mem, Node, RunFault, Setting, is_in_turn, is_read, joiners_kept, made_by, node_number, other_names, stop_count}
 use Rattle.outside.specs.declared.store.DiskName.TheVariants as name
 use Rattle.air_bus.specs.declared.entry.Entry.{Entry as BusEntry}
 use Rattle.epoch_journal.specs.Epochs.{Keeps as KeepsEpoch}
 use Rattle.topology_journal.specs.declared.topology.Topology.{Topology}
 use Rattle.topology_journal.specs.Topologies.{Keeps as KeepsTopology}
-use Rattle.site_laws.specs.Laws.{made_by}
 use Rattle.run_fault.specs.declared.fault.StorePlace.TheVariants as place
 use Rattle.run_fault.specs.declared.fault.Misplaced.{Misplaced}
-use Rattle.run_fault.specs.declared.fault.RunFault.{RunFault}
 use Rattle.run_fault.specs.declared.fault.RunFault.TheVariants as fault
-use Rattle.turn_defs.specs.declared.node.Node.{Node}
-use Rattle.turn_defs.specs.Setting.{Setting}
-use Rattle.turn_defs.specs.Nodes.{IsNode, node_number}
-use Rattle.site_store.specs.Kinds.{joiners_kept}
-use Rattle.gate_journal.specs.Images.{IsKeptIn}
-use Rattle.site_store.specs.Refusals.{IsJournalOf, other_names}
 use Rattle.site_store.specs.Kept.{IsTold, all_kept}
-use Rattle.photon_model.specs.Runs.{Disks}
-use Rattle.site_workers.specs.Works.{is_in_turn, stop_count}
-use Rattle.site_node.specs.declared.kind.NodeDisk.TheVariants.{First}
-use Rattle.site_laws.specs.Stores.{Images, IsDisk}
-use Rattle.site_store.specs.Records.{KeptDisk, KeptValues, AreKept}
-use Rattle.site_store.specs.Causes.{HasCause, HasPassed as PassesFor}
-use Rattle.site_store.specs.ReadBack.{is_read}
+use Rattle.site_store.specs.Records.{AreKept}
+use Rattle.site_store.specs.Causes.{HasPassed as PassesFor}
 use Rattle.site_run.specs.Causes.{disk_of}
 use Rattle.site_run.specs.Naming.{log_read, names_of}
 use Rattle.site_run.specs.Running.{ComesToLast}

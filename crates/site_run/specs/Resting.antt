@@ -1,14 +1,7 @@
 -- What the disks of nodes without an open turn hold: each disk alone what its node keeps.
 use Rattle.std.specs.Prelude.{◌≡◌, ℕ, List, length, map, slice_index_or, None}
-use Rattle.list_words.specs.Lists.{Each}
-use Rattle.turn_defs.specs.declared.config.Config.{Config}
-use Rattle.turn_defs.specs.declared.node.Node.{Node}
-use Rattle.turn_defs.specs.Setting.{Setting}
-use Rattle.turn_defs.specs.Nodes.{IsNode, node_number, node_count}
-use Rattle.site_store.specs.Lent.{Lent}
-use Rattle.site_laws.specs.Kinds.{StateOf}
+use Rattle.site_run.specs.Terms.{Config, Each, IsNode, KeepsFor, Lent, Node, Setting, StateOf, node_count, node_number}
 use Rattle.site_run.specs.Naming.{names_of}
-use Rattle.site_laws.specs.Stores.{KeepsFor}
 
 -- the node has no open turn
 abbrev pub IsClosed : (n : Node) → StateOf n → Type 0

@@ -1,25 +1,10 @@
 -- What a run of both sites' nodes is from, and what it leaves.
 use Rattle.std.specs.Prelude.{◌≡◌, ◌≢◌, ℕ, ◌+◌, ◌≤◌, Bool, true, List, [], ◌∷◌, ◌++◌, slice_index_or, Option, Some, IsTrue}
-use Rattle.ballot_core.specs.declared.TheConstants.{LAST_EPOCH}
+use Rattle.site_run.specs.Terms.{Begin, Disks, Dispatcher, Entry, IsAtRest, IsNode, IsRunOf, Joiner, Kind, LAST_EPOCH, Node, NodeDisk, NodeFault, PlanView, Reached, Replica, Server, Setting, Start, StateOf, down_over, is_in_turn, made_by, node_number, opening, stop_count, world_after}
 use Rattle.air_bus.specs.declared.entry.Entry.{Entry as BusEntry}
-use Rattle.air_bus.specs.declared.entry.Entry.TheVariants.{Begin}
-use Rattle.air_bus.specs.declared.entry.Input.TheVariants.{Start}
 use Rattle.air_bus.specs.declared.entry.Phase.TheVariants.{Busy}
-use Rattle.lossy_link.specs.declared.plan.Kind.{Kind}
-use Rattle.lossy_link.specs.Fates.{PlanView}
 use Rattle.air_bus.specs.Waiting.{is_dead}
-use Rattle.turn_defs.specs.Setting.{Setting}
-use Rattle.turn_defs.specs.Nodes.{IsNode, node_number}
-use Rattle.turn_defs.specs.declared.node.Node.{Node}
-use Rattle.turn_defs.specs.declared.node.Node.TheVariants.{Dispatcher, Server, Replica, Joiner}
-use Rattle.site_node.specs.declared.kind.NodeDisk.{NodeDisk}
-use Rattle.site_node.specs.declared.kind.NodeFault.{NodeFault}
 use Rattle.site_node.specs.declared.kind.NodeFault.TheVariants.{Damaged, Spent}
-use Rattle.site_workers.specs.Works.{Reached, is_in_turn, stop_count}
-use Rattle.photon_model.specs.Runs.{Entry, Disks, world_after, opening}
-use Rattle.photon_model.specs.Rest.{IsAtRest}
-use Rattle.site_laws.specs.Kinds.{StateOf, down_over}
-use Rattle.site_laws.specs.Laws.{IsRunOf, made_by}
 use Rattle.site_run.specs.AnyNodes.{AnyState, any_of, any_phase}
 
 -- the node's disk kept this epoch

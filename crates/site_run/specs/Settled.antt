@@ -1,12 +1,7 @@
 -- What the end of a run makes of its nodes and disks.
 use Rattle.std.specs.Prelude.{◌≡◌, ◌≢◌, ℕ, suc, List, [], ◌∷◌, Bool, false, IsTrue, Option, None, Some, filter}
-use Rattle.list_words.specs.Lists.{Each}
+use Rattle.site_run.specs.Terms.{Config, Each, EachWith, Lent, NodeFault, RunFault, is_output, is_replica, or_else}
 use Rattle.outside.specs.declared.store.DiskName.TheVariants as name
-use Rattle.turn_defs.specs.declared.config.Config.{Config}
-use Rattle.run_fault.specs.declared.fault.RunFault.{RunFault}
-use Rattle.site_node.specs.declared.kind.NodeFault.{NodeFault}
-use Rattle.site_store.specs.Lent.{Lent}
-use Rattle.site_store.specs.ReadBack.{EachWith, is_replica, is_output}
 use Rattle.site_run.specs.Causes.{of_node}
 
 -- ---- the fault that is told: that of the first node which has one
@@ -14,10 +9,6 @@ use Rattle.site_run.specs.Causes.{of_node}
 abbrev pub told_of : Config → ℕ → Option NodeFault → Option RunFault
 told_of config number None = None
 told_of config number (Some f) = Some (of_node config number f)
-
-abbrev pub or_else : Option RunFault → Option RunFault → Option RunFault
-or_else None later = later
-or_else (Some f) later = Some f
 
 -- of these nodes, the first of which has this number
 abbrev pub first_fault : {N : Type 0} → Config → ℕ → List (N × Option NodeFault) → Option RunFault

@@ -1,13 +1,7 @@
 -- A turn that would raise the last epoch.
 use Rattle.std.proofs.Common.{◌≡◌, inl, inr, ℕ, Bool, true, false, if◌then◌else◌, ◌==◌, Option, None, Some, refl, sym, ◌∙◌, ap}
 use Rattle.std.proofs.lemmas.Bool.{eqb-true}
-use Rattle.air_bus.specs.declared.entry.Entry.TheVariants.{Begin}
-use Rattle.air_bus.specs.declared.entry.Input.{Input}
-use Rattle.air_bus.specs.declared.entry.Input.TheVariants.{Start, Own, Tick, Packet}
-use Rattle.site_node.specs.States.{Leads, MayTake}
-use Rattle.registry_server.specs.Registrars.{server_rows}
-use Rattle.registry_server.specs.Node.{ServerState, spent_at}
-use Rattle.joiner_node.specs.Node.{JoinerState, LeadsTo, spends_of}
+use Rattle.site_run.specs.Terms.{Begin, Input, JoinerState, Leads, LeadsTo, MayTake, Own, Packet, ServerState, Start, Tick, server_rows, spends_of, spent_at}
 use Rattle.site_run.specs.AnyNodes.{AnyState, AnyLeads, IsAtLast, any_spends}
 
 -- what is spent is the last epoch

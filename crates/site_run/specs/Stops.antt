@@ -1,19 +1,9 @@
 -- The stops that are planned for the disks of a run's nodes, and those that its history has.
 use Rattle.std.specs.Prelude.{◌≡◌, ◌≢◌, ℕ, ◌+◌, ◌≤◌, List, [], ◌∷◌, Bool, false, Option, IfSome, Result, IfErr}
-use Rattle.list_words.specs.Lists.{Each}
-use Rattle.outside.specs.declared.store.DiskName.{DiskName}
+use Rattle.site_run.specs.Terms.{Config, DiskName, Each, IsNode, Lent, Node, RunFault, Setting, StorePlace, made_by, node_number, stop_count}
 use Rattle.outside.specs.Plans.{AtMost}
 use Rattle.air_bus.specs.declared.entry.Entry.{Entry as BusEntry}
-use Rattle.run_fault.specs.declared.fault.StorePlace.{StorePlace}
-use Rattle.run_fault.specs.declared.fault.RunFault.{RunFault}
 use Rattle.run_fault.specs.declared.fault.RunFault.TheVariants as fault
-use Rattle.turn_defs.specs.declared.config.Config.{Config}
-use Rattle.turn_defs.specs.declared.node.Node.{Node}
-use Rattle.turn_defs.specs.Setting.{Setting}
-use Rattle.turn_defs.specs.Nodes.{IsNode, node_number}
-use Rattle.site_store.specs.Lent.{Lent}
-use Rattle.site_laws.specs.Laws.{made_by}
-use Rattle.site_workers.specs.Works.{stop_count}
 use Rattle.site_run.specs.Naming.{names_of}
 use Rattle.site_run.specs.declared.ran.RunLog.{RunLog}
 

@@ -1,6 +1,5 @@
 // What a run of both sites that has come to rest means for the report.
-ghost use Rattle.outside.specs.Faults.{Rose};
-ghost use Rattle.turn_defs.specs.Setting.{Setting};
+ghost use Rattle.site_run.specs.Terms.{Rose, Setting};
 ghost use Rattle.site_run.specs.Meaning.{RestJoins, RestJoinsAfresh, RestJoinsByStops, RestRanAfresh};
 
 use crate::disk_laws::none_stops;

@@ -1,16 +1,11 @@
 // The run.
 ghost use Rattle.std.specs.Prelude.{◌≡◌, ◌≤◌, ℕ, List, None, IsTrue, IfErr, IfSome};
-ghost use Rattle.outside.specs.Faults.{Rose};
-ghost use Rattle.turn_defs.specs.Setting.{Setting, Checked};
-ghost use Rattle.site_store.specs.Plans.{Left, HasSoon};
-ghost use Rattle.site_store.specs.Records.{kept_all};
-ghost use Rattle.turn_defs.specs.Configs.{IsRunnable};
+ghost use Rattle.site_run.specs.Terms.{Checked, HasSoon, IsCounted, IsRunnable, Left, Rose, Setting, kept_all};
 ghost use Rattle.site_run.specs.Asked.{IsSettingOver, OfSetting};
 ghost use Rattle.site_run.specs.Making.{AreEnough, IsRoomFor};
 ghost use Rattle.site_run.specs.Stops.{RunsAsPlanned};
 ghost use Rattle.site_run.specs.Heard.{IsHeardOf};
 ghost use Rattle.site_run.specs.Over.{RunsOver};
-ghost use Rattle.run_fault.specs.Causes.{IsCounted};
 ghost use Rattle.site_run.specs.Refused.{NamesEnded};
 
 use crate::built::{Built, Logs, Room, build, take_last};

@@ -1,17 +1,12 @@
 // The end of a run: nodes are taken apart, disks read back, and all is given back.
-ghost use Rattle.std.specs.Prelude.{◌≡◌, ◌≢◌, ◌⊎◌, ◌≤◌, ◌+◌, ◌*◌, ◌++◌, ℕ, List, Some, None, Err, length, map, vec_len, vec_capacity, IsTrue, IfOk, IfErr, IfSome, OnOk};
-ghost use Rattle.list_words.specs.Lists.{Each, Mem};
-ghost use Rattle.outside.specs.declared.store.DiskName.{DiskName};
-ghost use Rattle.outside.specs.Faults.{Rose};
+ghost use Rattle.std.specs.Prelude.{◌≡◌, ◌≢◌, ◌⊎◌, ◌≤◌, ◌+◌, ◌*◌, ◌++◌, ℕ, List, Some, None, Ok, Err, length, map, vec_len, vec_capacity, IsTrue, IfOk, IfErr, IfSome, OnOk};
+ghost use Rattle.site_run.specs.Terms.{AreAmongImages, AreReadFrom, DiskName, Each, EachWith, IsOnlyRead, IsToldBy, KeepsNotes, Lent, MayBeLeft, Mem, OneWith, Rose, or_else, outputs, replicas};
 ghost use Rattle.run_fault.specs.declared.fault.StorePlace.{StorePlace as Place};
 ghost use Rattle.run_fault.specs.declared.fault.RunFault.TheVariants as run_fault;
 ghost use Rattle.output_log.specs.Pairs.{Keeps as KeepsPairs};
-ghost use Rattle.site_store.specs.Lent.{Lent, MayBeLeft};
-ghost use Rattle.site_node.specs.Replicas.{KeepsNotes};
-ghost use Rattle.site_store.specs.ReadBack.{EachWith, OneWith, replicas, outputs, AreReadFrom, IsOnlyRead, IsToldBy, AreAmongImages};
 ghost use Rattle.site_run.specs.Naming.{as_lent, all_from};
 ghost use Rattle.site_run.specs.Causes.{IsOfDisks};
-ghost use Rattle.site_run.specs.Settled.{told_of, or_else, first_fault, lent_replicas, lent_outputs, AreKeptIn, AreUp};
+ghost use Rattle.site_run.specs.Settled.{told_of, first_fault, lent_replicas, lent_outputs, AreKeptIn, AreUp};
 
 use crate::built::{Parting, Parts};
 use crate::causes::fault_of_node;
@@ -81,10 +76,7 @@ fn first_of(
 {
     match first {
         Some(first) => Some(first),
-        None => match fault {
-            Some(fault) => Some(fault_of_node(config, number, fault)),
-            None => None,
-        },
+        None => Some(fault_of_node(config, number, fault?)),
     }
 }
 
@@ -133,11 +125,22 @@ pub(crate) fn settle<F: Source, S: Store>(
     let Parts { disks, logs } = parts;
     let (disks, read) = read_disks(alloc, disks);
     give_parts(files, store, Parts { disks, logs });
-    if let Some(fault) = fault {
-        return Err(fault);
-    }
-    match read {
-        Ok(journals) => Ok(Outcome { journals }),
-        Err(fault) => Err(fault),
+    outcome_of(fault, read)
+}
+
+// The fault that is there already, else what was read.
+fn outcome_of(
+    fault: Option<RunFault>,
+    read: Result<Journals, RunFault>,
+) -> Result<Outcome, RunFault>
+    ensures ok { IfOk result (λ outcome. (fault ≡ None) × (read ≡ Ok outcome.journals)) }
+    ensures err { IfErr result (λ f. (fault ≡ Some f) ⊎ ((fault ≡ None) × (read ≡ Err f))) }
+{
+    match fault {
+        Some(fault) => Err(fault),
+        None => match read {
+            Ok(journals) => Ok(Outcome { journals }),
+            Err(fault) => Err(fault),
+        },
     }
 }

@@ -1,7 +1,6 @@
 // The logs of a run.
 ghost use Rattle.std.specs.Prelude.{◌≡◌, ◌⊎◌, ◌≤◌, ◌≢◌, List, ℕ, [], Some, length, vec_len, vec_capacity, IsTrue, IfOk, IfErr, OnOk, Err};
-ghost use Rattle.outside.specs.Faults.{Counts, Rose};
-ghost use Rattle.list_words.specs.Lists.{Each, Mem};
+ghost use Rattle.site_run.specs.Terms.{Counts, Each, Mem, Rose};
 ghost use Rattle.site_run.specs.Logs.{IsOfLogs, name_of};
 ghost use Rattle.run_fault.specs.declared.fault.RunFault.TheVariants as fault;
 ghost use Rattle.site_run.specs.Making.{AreEnough};

@@ -1,25 +1,15 @@
 // The run of all nodes, of whatever kind they are.
-ghost use Rattle.std.specs.Prelude.{◌≡◌, ◌<◌, ◌≤◌, ◌+◌, ◌*◌, ◌∷◌, [], ℕ, List, None, length, slice_index_or, vec_capacity, true, false, IsTrue, IfOk, IfErr, IfSome, IsSomeAnd};
+ghost use Rattle.std.specs.Prelude.{◌≡◌, ◌<◌, ◌≤◌, ◌+◌, ◌*◌, ◌∷◌, [], ℕ, List, None, length, slice_index_or, vec_capacity, true, false, IsTrue, IfErr, IfSome};
 ghost use Rattle.std.specs.List.{All};
-ghost use Rattle.outside.specs.declared.store.DiskName.{DiskName};
+ghost use Rattle.site_run.specs.Terms.{AllAsPlanned, DiskName, Disks, HasSoon, IsCounted, IsRunnable, Left, MayBeLeft, Rose, Setting};
 ghost use Rattle.outside.specs.declared.store.DiskName.TheVariants as name;
-ghost use Rattle.outside.specs.Faults.{Rose};
-ghost use Rattle.turn_defs.specs.Setting.{Setting};
-ghost use Rattle.photon_model.specs.Runs.{Disks};
-ghost use Rattle.site_store.specs.Lent.{MayBeLeft};
-ghost use Rattle.site_store.specs.Plans.{Left, HasSoon, AllAsPlanned};
-ghost use Rattle.gate_journal.specs.Images.{GoesOn};
-ghost use Rattle.site_laws.specs.Stores.{SameRecords};
 ghost use Rattle.site_run.specs.Heard.{IsHeardOf, kinds_of};
 ghost use Rattle.site_run.specs.Running.{AreDownOver};
 ghost use Rattle.site_run.specs.Naming.{as_lent, all_from, count_of};
-ghost use Rattle.turn_defs.specs.Configs.{IsRunnable};
-ghost use Rattle.run_fault.specs.Causes.{IsCounted};
-ghost use Rattle.site_run.specs.Refused.{IsOfRun, NamesEnded};
+ghost use Rattle.site_run.specs.Refused.{NamesEnded};
 ghost use Rattle.site_run.specs.Laws.{AreHeld, AreMet, KeepsItsRecord};
 ghost use Rattle.site_run.specs.Stops.{ArePlanned, RunsAsPlanned};
-ghost use Rattle.site_run.specs.Left.{HasRun, HasRested};
-ghost use Rattle.site_run.specs.Out.{AreOut};
+ghost use Rattle.site_run.specs.Over.{NodesEnd};
 
 use crate::built::{Parting, Parts, apart};
 use crate::disk_laws::none_stops;
@@ -63,21 +53,14 @@ where
     requires none { ran.old.log ≡ None }
     // Where no run began each disk is given back as it was.
     ensures idle { IsTrue S.Disk.tells → ran.new.log ≡ None → (disk : DiskName) (c : List ℕ) → S.image store.new disk c → MayBeLeft S.Disk.image (S.image store.old) (as_lent topology ∷ all_from (N.disks_of config.now) 0 nodes.items) disk c }
-    ensures grown { IsTrue S.Disk.tells → IsTrue N.tells → (g : Setting) (d : Disks) (s : S) → g.config ≡ config.now → AreHeld S.Disk.image N.places N.grown N.disks_of → AreDownOver N.places g d nodes.items
-        → AreOut S.Disk.image (S.image s) (S.image store.old) (as_lent topology) (all_from (N.disks_of config.now) 0 nodes.items) → (disk : DiskName) → GoesOn (S.image s disk) (S.image store.new disk) }
-    ensures left { IsTrue S.Disk.tells → IsTrue N.tells → (g : Setting) (d e : Disks) → g.config ≡ config.now → AreHeld S.Disk.image N.places N.grown N.disks_of → AreDownOver N.places g d nodes.items
-        → SameRecords g d e → KeepsItsRecord S.Disk.image g (as_lent topology) → IfSome ran.new.log (λ l. HasRun g e l.air.history (S.image store.new)) }
-    ensures rest { IsTrue S.Disk.tells → IsTrue N.tells → (g : Setting) (d e : Disks) → g.config ≡ config.now → AreHeld S.Disk.image N.places N.grown N.disks_of
-        → AreMet S.Disk.faults F.Log.faults N.SiteNode N.places N.disks_of N.logs_of → AreDownOver N.places g d nodes.items → SameRecords g d e → KeepsItsRecord S.Disk.image g (as_lent topology)
-        → IfOk result (λ outcome. IsSomeAnd ran.new.log (λ l. HasRested g e l.air.history (S.image store.new) (Rose (S.faults store.old) (S.faults store.new)) outcome.journals)) }
+    // How it ends for whatever records the nodes were opened over.
+    ensures over { IsTrue S.Disk.tells → IsTrue N.tells → (g : Setting) (d : Disks) → g.config ≡ config.now → AreHeld S.Disk.image N.places N.grown N.disks_of
+        → AreMet S.Disk.faults F.Log.faults N.SiteNode N.places N.disks_of N.logs_of → AreDownOver N.places g d nodes.items → KeepsItsRecord S.Disk.image g (as_lent topology)
+        → NodesEnd S.Disk.image S.image g d store.old store.new (as_lent topology) (all_from (N.disks_of config.now) 0 nodes.items) (Rose (S.faults store.old) (S.faults store.new)) ran.new.log result }
     ensures heard { IfSome ran.new.log (IsHeardOf plan config.now.joiners config.now.replicas) }
     ensures opened { IfSome ran.new.log (λ l. l.opened ≡ opened) }
     ensures cause { AreMet S.Disk.faults F.Log.faults N.SiteNode N.places N.disks_of N.logs_of
         → IfErr result (IsCounted (Rose (F.faults files.old) (F.faults files.new)) (Rose (S.faults store.old) (S.faults store.new))) }
-    // No disk is told as damaged. What failed is named by the nodes' entries, and a limit of a node that came to its last epoch by them.
-    ensures whole { IsTrue S.Disk.tells → IsTrue N.tells → (g : Setting) (d : Disks) → g.config ≡ config.now → AreHeld S.Disk.image N.places N.grown N.disks_of
-        → AreMet S.Disk.faults F.Log.faults N.SiteNode N.places N.disks_of N.logs_of → AreDownOver N.places g d nodes.items → KeepsItsRecord S.Disk.image g (as_lent topology)
-        → IfErr result (IsOfRun g d (Rose (S.faults store.old) (S.faults store.new)) ran.new.log) }
     ensures stopped { IfErr result (NamesEnded ran.new.log) }
     // No node stops more often than was planned for its disks, and where no stop is planned no disk meets a fault. Where nodes are spared it
     // gives up for none of their disks.

@@ -1,6 +1,5 @@
 -- A sound store that keeps no topology keeps no records.
-use Rattle.std.proofs.Common.{◌≡◌, ℕ, List, [], ◌∷◌, map, length, Bool, IsTrue, true, false, Option, Some, None, refl, sym, ◌∙◌, ap, subst, arith}
-use Rattle.std.specs.Prelude.{flat_map}
+use Rattle.std.proofs.Common.{◌≡◌, ℕ, List, [], ◌∷◌, map, length, Bool, IsTrue, true, false, Option, Some, None, refl, sym, ◌∙◌, ap, subst, arith, flat_map}
 use Rattle.site_store.proofs.Words.{Each, each_from, none_some, DiskName, ReplicaNote, note, gate_rule, Topology, Setting, KeepsNotes, vote_record, StoreTopology, Store, IsBlank, IsDisk, KeepsTopology, IsSoundStore, topology_read, KeepOneTopology, ReadTopologyIsKept, one_value, joiners_kept, Kept, KeptDisk, KeptValues, KeepsAs, IsOfKind, AreKept, other_names, LeavesSomething, KeptStore, notes_at, pairs_at, IsRead, KeepsNothing, values_from}
 use Rattle.outside.specs.declared.store.DiskName.TheVariants as name
 use Rattle.site_store.proofs.Lending.{each_mem}

@@ -1,6 +1,5 @@
 -- Why a store isn't opened, read or run over.
-use Rattle.std.proofs.Common.{◌≡◌, ◌≢◌, inl, inr, ⊎_elim, ℕ, ◌≤◌, List, [], ◌∷◌, Bool, Option, Some, None, arith}
-use Rattle.std.specs.Prelude.{IfSome, IfNone, MatchOption}
+use Rattle.std.proofs.Common.{◌≡◌, ◌≢◌, inl, inr, ⊎_elim, ℕ, ◌≤◌, List, [], ◌∷◌, Bool, Option, Some, None, arith, IfSome, IfNone, MatchOption}
 use Rattle.site_store.proofs.Words.{none_some, each_more, DiskName, Rose, added, Topology, IsKeptIn, LogName, Clicks, StorePlace, Misplaced, RunFault, IsFitFor, limit_at, or_else, limit_in, IsUnopened, IsFirstDisk, IsJournalOf, IsUnwritten, Kept, KeptDisk, KeptValues, KeepsAs, IsKept, AreKept, AreTold, ArePassed, HasCause, HasFailed, HasPassed, IsCause, IsUnfit, IsUnread, first_limit, joiners_asked}
 use Rattle.outside.specs.declared.store.DiskName.TheVariants as name
 use Rattle.run_fault.specs.declared.fault.StorePlace.TheVariants as place

@@ -1,6 +1,5 @@
 -- Disks that are lent and given back, one by one.
-use Rattle.std.proofs.Common.{◌≡◌, ◌≢◌, ◌⊎◌, inl, inr, ℕ, ◌+◌, ◌<◌, List, [], ◌∷◌, ◌++◌, length, take, get_or, refl, sym, ◌∙◌, ap, subst, arith, zero, suc}
-use Rattle.std.specs.Prelude.{map}
+use Rattle.std.proofs.Common.{◌≡◌, ◌≢◌, ◌⊎◌, inl, inr, ℕ, ◌+◌, ◌<◌, List, [], ◌∷◌, ◌++◌, length, take, get_or, refl, sym, ◌∙◌, ap, subst, arith, zero, suc, map}
 use Rattle.site_store.proofs.Words.{map-append, take_more, length-append, Each, EachPair, Mem, mem_left, DiskName, Within, StaysAs, IsKeptIn, Lent, Lacks, IsLent, MayBeLeft, OpenView, KeepsAs, IsKept, kept_by, lent_by, lent_all, other_names}
 use Rattle.site_store.proofs.Names.{others_apart}
 use Rattle.site_store.proofs.Stays.{opened_same}

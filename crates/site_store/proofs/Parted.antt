@@ -1,7 +1,5 @@
 -- Disks and their records, taken apart one by one.
-use Rattle.std.proofs.Common.{◌≡◌, ◌≤◌, List, [], ◌∷◌, ◌++◌, length, refl, sym, ap, ◌∙◌, append_assoc, arith}
-use Rattle.std.specs.Prelude.{flat_map}
-use Rattle.std.proofs.lemmas.List.{append-nil}
+use Rattle.std.proofs.Common.{◌≡◌, ◌≤◌, List, [], ◌∷◌, ◌++◌, length, refl, sym, ap, ◌∙◌, append_assoc, arith, flat_map, append-nil}
 use Rattle.site_store.proofs.Words.{map-append, KeptDisk, OpenView, kept_by, kept_all, Lent, LentDisk, lent_of, all_lent, lent_by, lent_all, ReadAs, notes_in, pairs_in}
 
 -- the records of the first that is left are put behind the others

@@ -1,6 +1,5 @@
 -- What the journals that a store is read as say is the report of records that its disks kept.
-use Rattle.std.proofs.Common.{◌≡◌, ℕ, zero, suc, ◌+◌, ◌*◌, ◌<◌, List, [], ◌∷◌, ◌++◌, map, Bool, IsTrue, true, Option, Some, None, refl, sym, ◌∙◌, ap, subst, arith}
-use Rattle.std.specs.Prelude.{flat_map}
+use Rattle.std.proofs.Common.{◌≡◌, ℕ, zero, suc, ◌+◌, ◌*◌, ◌<◌, List, [], ◌∷◌, ◌++◌, map, Bool, IsTrue, true, Option, Some, None, refl, sym, ◌∙◌, ap, subst, arith, flat_map}
 use Rattle.site_store.proofs.Words.{map-append, Each, DiskName, PairRec, note_view, Topology, Setting, first_joiner, BallotNote, ReplicaKept, joiners_kept, journals, values_from, Disks, Store, AreOf, TellsTheReport, joiner_of, ReadTopologyIsKept, ReadNotesAreKept, OpenedIsWhole, Kept, KeptDisk, KeptValues, IsOfKind, AreKept, Says, AreRecordsOf, other_names, IsAsked, ArePassed, KeptStore, notes_at, pairs_at, IsOfValues, IsRead, Tells}
 use Rattle.outside.specs.declared.store.DiskName.TheVariants as name
 use Rattle.site_store.proofs.Lending.{each_two}

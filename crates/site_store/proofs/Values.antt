@@ -1,6 +1,5 @@
 -- What the disk of a name keeps.
-use Rattle.std.proofs.Common.{◌≡◌, ◌≢◌, ◌⊎◌, inl, inr, ℕ, List, [], ◌∷◌, ◌++◌, map, refl, ◌∙◌, ap, subst, arith}
-use Rattle.std.specs.Prelude.{flat_map}
+use Rattle.std.proofs.Common.{◌≡◌, ◌≢◌, ◌⊎◌, inl, inr, ℕ, List, [], ◌∷◌, ◌++◌, map, refl, ◌∙◌, ap, subst, arith, flat_map}
 use Rattle.site_store.proofs.Words.{Each, EachPair, Mem, DiskName, IsKeptIn, IsJournalOf, WereJournals, Kept, KeptDisk, OpenView, KeepsAs, IsOfKind, IsKept, kept_by, kept_all}
 use Rattle.outside.specs.declared.store.DiskName.TheVariants as name
 use Rattle.site_store.proofs.Lending.{each_mem, same_or_not}

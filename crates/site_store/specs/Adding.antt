@@ -1,28 +1,17 @@
 -- A row that is put behind those of the table that a store keeps.
 use Rattle.std.specs.Prelude.{◌≡◌, ◌≢◌, ◌⊎◌, ℕ, List, map, flat_map, Bool, IsTrue, Option, None, Some, Result, Ok, Err, ⊤}
-use Rattle.outside.specs.declared.store.DiskName.{DiskName}
+use Rattle.site_store.specs.Terms.{DiskName, GoesOn, Images, IsOpened, IsSoundOr, IsSoundStore, Misplaced, RunFault, Setting, ShardRow, StaysAs, Topology, Unfit, all_batches, too_soon_for, topology_of}
 use Rattle.outside.specs.declared.store.DiskName.TheVariants as name
-use Rattle.gate_journal.specs.Images.{StaysAs, GoesOn}
-use Rattle.gate_journal.specs.Opening.{IsOpened}
 use Rattle.registry_state.specs.declared.Batch.{Batch}
 use Rattle.paxos_acceptor.specs.Cells.{note_view}
-use Rattle.time_shards.specs.declared.ShardRow.{ShardRow}
 use Rattle.time_shards.specs.declared.AddFault.{AddFault}
 use Rattle.time_shards.specs.declared.AddFault.TheVariants.{Rows, Start}
 use Rattle.time_shards.specs.Shards.{added}
-use Rattle.topology_journal.specs.declared.topology.Topology.{Topology}
-use Rattle.topology_journal.specs.Topologies.{topology_of}
-use Rattle.turn_defs.specs.Setting.{Setting}
-use Rattle.verify_pass.specs.TooSoon.{all_batches, too_soon_for}
 use Rattle.verify_pass.specs.declared.starts.TooSoon.{TooSoon}
 use Rattle.verify_pass.specs.declared.starts.TooSoon.TheVariants.{Bound, Id}
 use Rattle.photon_model.specs.Adding.{with_row}
-use Rattle.site_laws.specs.Stores.{Images, IsSoundStore, IsSoundOr}
-use Rattle.run_fault.specs.declared.fault.Misplaced.{Misplaced}
 use Rattle.run_fault.specs.declared.fault.StorePlace.TheVariants.{Disk as OfDisk}
-use Rattle.run_fault.specs.declared.fault.Unfit.{Unfit}
 use Rattle.run_fault.specs.declared.fault.Unfit.TheVariants as unfit
-use Rattle.run_fault.specs.declared.fault.RunFault.{RunFault}
 use Rattle.run_fault.specs.declared.fault.RunFault.TheVariants as fault
 use Rattle.site_store.specs.Records.{KeptDisk, KeptValues, AreKept}
 use Rattle.site_store.specs.Reading.{notes_at}

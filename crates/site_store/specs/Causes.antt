@@ -1,24 +1,16 @@
 -- Why a store isn't opened, read or run over: the causes of the statuses, by what a stop might have left of its disks before.
 use Rattle.std.specs.Prelude.{◌≡◌, ◌⊎◌, ℕ, List, Bool, IsTrue, Option, None, Some, ⊤}
-use Rattle.ballot_core.specs.declared.TheConstants.{LAST_EPOCH}
-use Rattle.outside.specs.declared.store.DiskName.{DiskName}
-use Rattle.log_records.specs.Lines.{end_from}
-use Rattle.topology_journal.specs.declared.topology.Topology.{Topology}
-use Rattle.turn_defs.specs.Setting.{Setting}
-use Rattle.dispatch_node.specs.Places.{IsLogOf}
+use Rattle.site_store.specs.Terms.{DiskName, IsDisk, IsLogOf, LAST_EPOCH, Misplaced, RunFault, Setting, Topology, end_from}
 use Rattle.run_fault.specs.declared.fault.LogName.{LogName}
 use Rattle.run_fault.specs.declared.fault.LogName.TheVariants.{Clicks}
 use Rattle.run_fault.specs.declared.fault.StorePlace.{StorePlace}
 use Rattle.run_fault.specs.declared.fault.StorePlace.TheVariants as place
 use Rattle.run_fault.specs.declared.fault.Mismatch.TheVariants as mismatch
-use Rattle.run_fault.specs.declared.fault.Misplaced.{Misplaced}
-use Rattle.run_fault.specs.declared.fault.RunFault.{RunFault}
 use Rattle.run_fault.specs.declared.fault.RunFault.TheVariants as fault
 use Rattle.site_store.specs.Misfits.{IsMisfit, IsFitFor, limit_in}
 use Rattle.site_store.specs.Opening.{IsDamagedIn}
 use Rattle.site_store.specs.Refusals.{IsFirstDisk}
 use Rattle.site_store.specs.Kept.{all_kept, IsTold}
-use Rattle.site_laws.specs.Stores.{IsDisk}
 use Rattle.site_store.specs.Records.{KeptDisk, KeptValues, AreKept}
 
 -- how many joiners a site is asked to have

@@ -1,12 +1,8 @@
 -- The places of the click log that the disks of both dispatchers keep, and the first of them that doesn't fit the log.
 use Rattle.std.specs.Prelude.{◌≡◌, ℕ, List, [], ◌∷◌, ◌++◌, map, Option, None, Some, ⊤}
-use Rattle.list_words.specs.Lists.{Each}
-use Rattle.outside.specs.declared.store.DiskName.{DiskName}
-use Rattle.outside.specs.declared.store.DiskName.TheVariants.{Offset, Retry}
-use Rattle.log_records.specs.Lines.{ClickLine, at, IsBoundary}
+use Rattle.site_store.specs.Terms.{ClickLine, DiskName, Each, IsBoundary, Misplaced, Offset, Retry, at}
 use Rattle.site_store.specs.Floors.{IsFloorOf}
 use Rattle.site_store.specs.Records.{Kept, OffsetIs, PendingAre, KeptDisk}
-use Rattle.run_fault.specs.declared.fault.Misplaced.{Misplaced}
 
 -- a whole line starts at p
 abbrev pub IsStart : List ClickLine → ℕ → Type 0

@@ -1,12 +1,8 @@
 -- The kinds of journal by the names of their disks.
 use Rattle.std.specs.Prelude.{◌≡◌, ℕ, List, Err, Option, None, Some}
-use Rattle.outside.specs.declared.store.DiskName.{DiskName}
+use Rattle.site_store.specs.Terms.{DiskName, Topology, epoch_of, offset_of, pending_of}
 use Rattle.outside.specs.declared.store.DiskName.TheVariants as name
-use Rattle.topology_journal.specs.declared.topology.Topology.{Topology}
 use Rattle.topology_journal.specs.Topologies.{IsDamagedAt as IsTopologyDamaged}
-use Rattle.epoch_journal.specs.Epochs.{epoch_of}
-use Rattle.offset_journal.specs.Offsets.{offset_of}
-use Rattle.retry_log.specs.Pending.{pending_of}
 use Rattle.output_log.specs.Pairs.{IsDamagedAt as IsOutputDamaged}
 use Rattle.replica_node.specs.Votes.{IsDamagedAt as IsVotesDamaged}
 

@@ -1,14 +1,9 @@
 -- What opening a store for a run leaves of its disks.
 use Rattle.std.specs.Prelude.{◌≡◌, ◌≢◌, ℕ, List, ◌∷◌}
-use Rattle.list_words.specs.Lists.{Each}
-use Rattle.outside.specs.declared.store.DiskName.{DiskName}
+use Rattle.site_store.specs.Terms.{DiskName, Each, GoesOn, Setting, StaysAs, Topology, Within}
 use Rattle.outside.specs.declared.store.DiskName.TheVariants as name
-use Rattle.outside.specs.Disk.{Within}
-use Rattle.topology_journal.specs.declared.topology.Topology.{Topology}
 use Rattle.site_store.specs.Lent.{Lent, Lacks}
-use Rattle.gate_journal.specs.Images.{StaysAs, GoesOn}
 use Rattle.site_store.specs.Written.{AllKeep, StaysOrKeeps}
-use Rattle.turn_defs.specs.Setting.{Setting}
 
 -- The disks of a run. The topology's keeps what was asked, whatever a stop leaves of it, and its old records. What a stop
 -- may leave of each other disk stands for what it might have left of it in the store. Of a disk that wasn't taken it leaves

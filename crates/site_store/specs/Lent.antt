@@ -1,9 +1,6 @@
 -- Disks that were taken from a store, each under its name.
 use Rattle.std.specs.Prelude.{◌≡◌, ◌≢◌, ◌⊎◌, ℕ, List}
-use Rattle.outside.specs.declared.store.DiskName.{DiskName}
-use Rattle.outside.specs.Disk.{Within}
-use Rattle.gate_journal.specs.Images.{StaysAs}
-use Rattle.list_words.specs.Lists.{Each, Mem}
+use Rattle.site_store.specs.Terms.{DiskName, Each, Mem, StaysAs, Within}
 
 -- a disk under its name
 pub record Lent (D : Type 0) : Type 0 where

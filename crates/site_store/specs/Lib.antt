@@ -1,3 +1,4 @@
+pub mod Terms
 pub mod Lent
 pub mod Kinds
 pub mod Opening

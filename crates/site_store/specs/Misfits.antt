@@ -1,15 +1,11 @@
 -- Why opened disks can't be run as asked.
 use Rattle.std.specs.Prelude.{◌≡◌, ◌≢◌, List, [], ◌∷◌, ◌==◌, Bool, ◌||◌, if◌then◌else◌, Option, None, Some, ⊤}
 use Rattle.std.specs.List.{list_any}
-use Rattle.ballot_core.specs.declared.TheConstants.{LAST_EPOCH}
+use Rattle.site_store.specs.Terms.{DiskName, LAST_EPOCH, ReplicaNote, RunFault, Topology}
 use Rattle.turn_defs.specs.declared.limits.TheConstants.{LAST_SLOT}
-use Rattle.outside.specs.declared.store.DiskName.{DiskName}
-use Rattle.paxos_acceptor.specs.declared.notes.ReplicaNote.{ReplicaNote}
 use Rattle.paxos_acceptor.specs.declared.notes.ReplicaNote.TheVariants.{Promised, Accepted}
-use Rattle.topology_journal.specs.declared.topology.Topology.{Topology}
 use Rattle.site_store.specs.Records.{Kept, EpochIs, NotesAre, KeptDisk}
 use Rattle.run_fault.specs.declared.fault.Mismatch.TheVariants as mismatch
-use Rattle.run_fault.specs.declared.fault.RunFault.{RunFault}
 use Rattle.run_fault.specs.declared.fault.RunFault.TheVariants as fault
 
 -- nothing else than the asked topology is kept

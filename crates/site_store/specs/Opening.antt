@@ -1,14 +1,11 @@
 -- What opening the disks of a store does.
 use Rattle.std.specs.Prelude.{ℕ, List, Bool, IsTrue}
-use Rattle.outside.specs.declared.store.DiskName.{DiskName}
-use Rattle.outside.specs.Faults.{Rose}
+use Rattle.site_store.specs.Terms.{DiskName, IsOfDisk, Rose, RunFault}
 use Rattle.gate_journal.specs.declared.reading.JournalFault.{JournalFault}
 use Rattle.gate_journal.specs.declared.reading.JournalFault.TheVariants as journal
 use Rattle.site_store.specs.Kinds.{damaged_by}
 use Rattle.run_fault.specs.declared.fault.StorePlace.TheVariants as place
-use Rattle.run_fault.specs.declared.fault.RunFault.{RunFault}
 use Rattle.run_fault.specs.declared.fault.RunFault.TheVariants as fault
-use Rattle.run_fault.specs.Causes.{IsOfDisk}
 
 -- A file is damaged as its kind reads it. A fault of the disk raised its count. Want of memory is free.
 abbrev pub IsRefusedBy : (List ℕ → ℕ → Type 0) → Bool → List ℕ → (old new : ℕ) → JournalFault → Type 0

@@ -1,6 +1,6 @@
 -- Relations between what may be left of disks at different times.
 use Rattle.std.proofs.Common.{◌⊎◌, inl, inr, ℕ, List}
-use Rattle.outside.specs.declared.store.DiskName.{DiskName}
+use Rattle.site_store.specs.Terms.{DiskName}
 
 -- what a stop may leave of a disk of a store, or of one that was taken
 abbrev pub left_at : {S D : Type 0} → (S → DiskName → List ℕ → Type 0) → (D → List ℕ → Type 0) → (S × DiskName) ⊎ D → List ℕ → Type 0

@@ -1,14 +1,10 @@
 -- The stops that are planned for disks, in a store and out of it.
 use Rattle.std.specs.Prelude.{◌≡◌, ◌+◌, ℕ, List, Bool}
-use Rattle.list_words.specs.Lists.{Each}
-use Rattle.outside.specs.Disk.{StopsAmong}
-use Rattle.outside.specs.Plans.{AtMost}
+use Rattle.site_store.specs.Terms.{AtMost, DiskName, Each, RunFault, StopsAmong}
 use Rattle.outside.specs.declared.disk.Disk as disk
 use Rattle.outside.specs.declared.store.Store as store
-use Rattle.outside.specs.declared.store.DiskName.{DiskName}
 use Rattle.outside.specs.declared.store.DiskName.TheVariants as name
 use Rattle.run_fault.specs.declared.fault.StorePlace.TheVariants as place
-use Rattle.run_fault.specs.declared.fault.RunFault.{RunFault}
 use Rattle.run_fault.specs.declared.fault.RunFault.TheVariants as fault
 use Rattle.site_store.specs.Lent.{Lent, Lacks}
 

@@ -1,17 +1,9 @@
 -- What reading disks back gives.
 use Rattle.std.specs.Prelude.{◌≡◌, ◌≢◌, ◌≤◌, ◌⊎◌, ⊤, ℕ, List, [], ◌∷◌, ◌||◌, Bool, true, false, filter, IsTrue}
-use Rattle.list_words.specs.Lists.{Each}
-use Rattle.outside.specs.declared.store.DiskName.{DiskName}
+use Rattle.site_store.specs.Terms.{DiskName, Each, IsOfDisk, KeepsNotes, PairRec, ReplicaNote, Rose, RunFault, Throughout}
 use Rattle.outside.specs.declared.store.DiskName.TheVariants as name
-use Rattle.outside.specs.Disk.{Throughout}
-use Rattle.outside.specs.Faults.{Rose}
-use Rattle.paxos_acceptor.specs.declared.notes.ReplicaNote.{ReplicaNote}
-use Rattle.turn_defs.specs.declared.pair.PairRec.{PairRec}
 use Rattle.output_log.specs.Pairs.{Keeps as KeepsPairs}
 use Rattle.site_store.specs.Kinds.{damaged_by}
-use Rattle.site_node.specs.Replicas.{KeepsNotes}
-use Rattle.run_fault.specs.declared.fault.RunFault.{RunFault}
-use Rattle.run_fault.specs.Causes.{IsOfDisk}
 use Rattle.site_store.specs.declared.lent.disk.LentDisk.{LentDisk}
 use Rattle.site_store.specs.declared.lent.reading.ReadAs.{ReadAs}
 use Rattle.site_store.specs.declared.lent.reading.ReadAs.TheVariants.{Notes, Pairs, Neither}

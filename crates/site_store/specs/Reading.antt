@@ -1,8 +1,6 @@
 -- What a store is read as.
 use Rattle.std.specs.Prelude.{◌≡◌, ℕ, List, [], ◌∷◌, flat_map, Bool, None}
-use Rattle.outside.specs.declared.store.DiskName.{DiskName}
-use Rattle.turn_defs.specs.declared.pair.PairRec.{PairRec}
-use Rattle.paxos_acceptor.specs.declared.notes.ReplicaNote.{ReplicaNote}
+use Rattle.site_store.specs.Terms.{DiskName, PairRec, ReplicaNote}
 use Rattle.site_store.specs.Records.{Kept, NotesAre, PairsAre, KeptValues, AreKept}
 use Rattle.site_store.specs.Causes.{ArePassed}
 use Rattle.site_store.specs.declared.reading.kept.KeptStore.{KeptStore}

@@ -1,24 +1,15 @@
 -- What the disks of a store keep, each under its name, and the records of a setting's nodes.
 use Rattle.std.specs.Prelude.{◌≡◌, ℕ, List, map, Bool, IsTrue, Option, ⊤}
-use Rattle.list_words.specs.Lists.{Each}
-use Rattle.outside.specs.declared.store.DiskName.{DiskName}
+use Rattle.site_store.specs.Terms.{DiskName, Disks, Each, IsKeptIn, KeepsNotes, PairRec, ReplicaNote, Setting, Topology, joiner_of, kept_of}
 use Rattle.outside.specs.declared.store.DiskName.TheVariants as name
-use Rattle.topology_journal.specs.declared.topology.Topology.{Topology}
 use Rattle.topology_journal.specs.Topologies.{Keeps as KeepsTopology}
 use Rattle.epoch_journal.specs.Epochs.{Keeps as KeepsEpoch}
 use Rattle.offset_journal.specs.Offsets.{Keeps as KeepsOffset}
 use Rattle.retry_log.specs.Pending.{Keeps as KeepsPending}
-use Rattle.turn_defs.specs.declared.pair.PairRec.{PairRec}
 use Rattle.output_log.specs.Pairs.{Keeps as KeepsPairs}
-use Rattle.paxos_acceptor.specs.declared.notes.ReplicaNote.{ReplicaNote}
-use Rattle.turn_defs.specs.Setting.{Setting}
-use Rattle.gate_journal.specs.Images.{IsKeptIn}
-use Rattle.site_node.specs.Replicas.{KeepsNotes, kept_of}
 use Rattle.site_store.specs.Kinds.{joiners_kept}
 use Rattle.site_store.specs.Refusals.{other_names}
 use Rattle.site_store.specs.Lent.{Lent}
-use Rattle.photon_model.specs.Runs.{Disks}
-use Rattle.site_laws.specs.Stores.{joiner_of}
 
 -- what a journal keeps, by its kind
 pub data Kept : Type 0 where

@@ -1,19 +1,12 @@
 -- Which disk is told where one isn't opened: the first in the order of the names.
 use Rattle.std.specs.Prelude.{◌≡◌, ◌⊎◌, ℕ, List, [], ◌∷◌, ◌++◌, Bool, IsTrue, Option}
-use Rattle.list_words.specs.Lists.{Each}
-use Rattle.outside.specs.declared.store.DiskName.{DiskName}
+use Rattle.site_store.specs.Terms.{DiskName, Each, IsKeptIn, KeepsNotes, PairRec, ReplicaNote, Topology, values_from}
 use Rattle.outside.specs.declared.store.DiskName.TheVariants as name
-use Rattle.paxos_acceptor.specs.declared.notes.ReplicaNote.{ReplicaNote}
-use Rattle.topology_journal.specs.declared.topology.Topology.{Topology}
 use Rattle.topology_journal.specs.Topologies.{Keeps as KeepsTopology}
 use Rattle.epoch_journal.specs.Epochs.{Keeps as KeepsEpoch}
 use Rattle.offset_journal.specs.Offsets.{Keeps as KeepsOffset}
 use Rattle.retry_log.specs.Pending.{Keeps as KeepsPending}
-use Rattle.turn_defs.specs.declared.pair.PairRec.{PairRec}
 use Rattle.output_log.specs.Pairs.{Keeps as KeepsPairs}
-use Rattle.gate_journal.specs.Images.{IsKeptIn}
-use Rattle.photon_model.specs.Journals.{values_from}
-use Rattle.site_node.specs.Replicas.{KeepsNotes}
 use Rattle.site_store.specs.Kinds.{joiners_kept}
 
 -- a file under this name is a journal of its kind

@@ -1,16 +1,9 @@
 -- The lines of the worked rows, and what is answered to a row where two replicas keep notes.
 use Rattle.std.specs.Prelude.{ℕ, List, [], ◌∷◌, Option, Result}
-use Rattle.outside.specs.declared.store.DiskName.TheVariants.{Replica}
-use Rattle.paxos_acceptor.specs.declared.notes.ReplicaNote.{ReplicaNote}
-use Rattle.time_shards.specs.declared.ShardRow.{ShardRow}
-use Rattle.topology_journal.specs.declared.topology.Topology.{Topology}
-use Rattle.topology_journal.specs.Topologies.{topology_of}
+use Rattle.site_store.specs.Terms.{ClickLine, Replica, ReplicaNote, ShardRow, Topology, Unfit, one_click, topology_of}
 use Rattle.verify_pass.specs.Rows.{one_batch, only_bound, took}
-use Rattle.run_fault.specs.declared.fault.Unfit.{Unfit}
 use Rattle.site_store.specs.Records.{NotesAre}
 use Rattle.site_store.specs.Adding.{accepted, answer_to}
-use Rattle.log_records.specs.Lines.{ClickLine}
-use Rattle.log_records.specs.Rows.{one_click}
 
 -- a click's line of 35 bytes, with its line feed
 abbrev pub one_line : List ClickLine

@@ -1,15 +1,10 @@
 -- What verification makes of the journals that a store is read as.
 use Rattle.std.specs.Prelude.{◌≡◌, ℕ, List, [], map, Bool}
-use Rattle.outside.specs.declared.store.DiskName.{DiskName}
+use Rattle.site_store.specs.Terms.{AreLeft, ClickLine, DiskName, IsSoundStore, Setting, Store, WholeSound, values_from}
 use Rattle.log_records.specs.declared.records.ClickRec.{ClickRec as Click}
-use Rattle.log_records.specs.Lines.{ClickLine}
 use Rattle.log_records.specs.Report.{distinct}
-use Rattle.turn_defs.specs.Setting.{Setting}
-use Rattle.photon_model.specs.Journals.{values_from}
 use Rattle.photon_model.specs.Report.{report}
-use Rattle.photon_model.specs.Topology.{Store, WholeSound}
 use Rattle.photon_model.specs.Verification.{AreOf}
-use Rattle.site_laws.specs.Stores.{AreLeft, IsSoundStore}
 use Rattle.verify_pass.specs.declared.journals.Journals.{Journals}
 use Rattle.verify_pass.specs.Classes.{line_of}
 

@@ -1,13 +1,9 @@
 -- What the topology's disk may hold once it was written to.
 use Rattle.std.specs.Prelude.{◌≡◌, ◌⊎◌, ℕ, List, [], ◌∷◌, ◌++◌, Some}
 use Rattle.outside.specs.declared.store.DiskName.TheVariants as name
-use Rattle.outside.specs.Faults.{Rose}
+use Rattle.site_store.specs.Terms.{IsOfDisk, IsOpened, Rose, RunFault, Topology, topology_record}
 use Rattle.gate_journal.specs.Gate.{StandsFor}
-use Rattle.gate_journal.specs.Opening.{IsOpened}
-use Rattle.topology_journal.specs.declared.topology.Topology.{Topology}
-use Rattle.topology_journal.specs.Topologies.{Keeps, topology_record}
-use Rattle.run_fault.specs.declared.fault.RunFault.{RunFault}
-use Rattle.run_fault.specs.Causes.{IsOfDisk}
+use Rattle.topology_journal.specs.Topologies.{Keeps}
 
 -- each image keeps this topology
 abbrev pub AllKeep : Topology → (List ℕ → Type 0) → Type 0

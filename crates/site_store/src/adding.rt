@@ -1,10 +1,8 @@
 // A row behind those of the table that a store keeps.
 ghost use Rattle.std.specs.Prelude.{◌≡◌, ◌≤◌, [], ◌∷◌, IsTrue, IfOk, IfErr, Ok};
 ghost use Rattle.std.specs.List.{fold};
-ghost use Rattle.outside.specs.Faults.{Rose};
+ghost use Rattle.site_store.specs.Terms.{MayCome, Rose, taken, too_soon_for};
 ghost use Rattle.time_shards.specs.declared.TheConstants.{MAX_SHARDS};
-ghost use Rattle.topology_journal.specs.Topologies.{MayCome};
-ghost use Rattle.verify_pass.specs.TooSoon.{taken, too_soon_for};
 ghost use Rattle.site_store.specs.Records.{kept_all, kept_by, values_of};
 ghost use Rattle.site_store.specs.Adding.{IsAdded, IsAnswer, IsRowCause, IsUnadded, LeavesBy, accepted, unfit_by};
 

@@ -2,8 +2,8 @@
 use denote.RattleType.{RattleType}
 use denote.Param.Send.{IsSend, sendable}
 use Rattle.std.proofs.Crossing.{crosses}
+use Rattle.site_workers.proofs.Words.{Ghosts}
 use Rattle.bus_seat.proofs.Crossing.{seat_send}
-use Rattle.site_node.specs.declared.kind.SiteNode.{Ghosts}
 use Rattle.site_node.proofs.kind.NodeFault.TheSendSync as fault
 use Rattle.site_workers.specs.contracts.worker.Worker as worker
 

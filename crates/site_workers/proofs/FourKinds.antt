@@ -1,11 +1,8 @@
 -- What a node of one of four kinds does is what the node of its kind does.
 use Rattle.std.proofs.Common.{inl, inr, ℕ, ◌≤◌, length, List, Option}
-use Rattle.std.specs.Prelude.{Result, Ok, Err, IfOk}
-use Rattle.air_bus.specs.declared.entry.Entry.{Entry}
-use Rattle.air_bus.specs.declared.entry.Entry.TheVariants.{Begin, End, Stop}
+use Rattle.site_workers.proofs.Words.{Begin, End, Entry, Err, IfOk, NodeFault, Ok, Result, Stop}
 use Rattle.air_bus.specs.declared.entry.Input.{Input}
 use Rattle.site_node.specs.declared.kind.Done.{Done}
-use Rattle.site_node.specs.declared.kind.NodeFault.{NodeFault}
 use Rattle.site_workers.specs.FourKinds as one
 
 -- a node that stood where P says stands where Q says

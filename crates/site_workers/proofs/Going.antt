@@ -1,23 +1,14 @@
 -- Rounds of workers, one after another, and what they leave.
 use Rattle.std.proofs.Common.{◌≡◌, ℕ, zero, suc, ◌+◌, ◌<◌, false, List, [], ◌∷◌, ◌++◌, length, map, take, drop, get_or, Option, Some, None, IfSome, MatchOption, refl, sym, ap, ◌∙◌, subst, arith}
-use Rattle.std.specs.Prelude.{All, IsTrue, IsSome}
-use mathlib.Core.List.{map-append}
 use Rattle.std.proofs.Math.Seq.{take-append_seam}
 use Rattle.std.proofs.lemmas.Simd.{map-map}
-use Rattle.std.specs.List.{range_with_len}
-use Rattle.std.proofs.lemmas.List.{length-map, get_or-map, get_or_append_left, get_or_push, ext_get_or}
 use Rattle.std.proofs.Common.{[], length-append}
 use Rattle.std.proofs.lemmas.List.FromFn.{map-range_with_len_more}
-use Rattle.air_bus.specs.declared.entry.Entry.{Entry}
+use Rattle.site_workers.proofs.Words.{All, AllWentOn, AreSeatsOf, BusId, Entry, Ghosts, GrowsOn, HasFault, HasMet, IsIn, IsSome, IsTrue, KeepsPlan, LeadsOn, NodeFault, OneHasFault, Rests, Sight, TakesPart, WentOn, WorkerView, ext_get_or, fresh, fresh_seats, fresh_to, get_or-map, get_or_append_left, get_or_push, length-map, map-append, range_with_len, tag}
 use Rattle.air_bus.specs.Waiting.{is_dead}
 use Rattle.bus_seat.specs.Views.{count, made_by}
-use Rattle.bus_seat.specs.Seats.{BusId, Sight, fresh, fresh_to, fresh_seats, tag, TakesPart, AreSeatsOf, IsIn}
 use Rattle.bus_seat.proofs.Closing.{snoc_injective, fresh_count}
-use Rattle.site_node.specs.declared.kind.NodeFault.{NodeFault}
-use Rattle.site_node.specs.declared.kind.SiteNode.{Ghosts}
 use Rattle.site_workers.specs.Heard.{seat_numbers}
-use Rattle.site_workers.specs.Works.{WorkerView, LeadsOn, GrowsOn, HasMet, KeepsPlan}
-use Rattle.site_workers.specs.Rounds.{WentOn, AllWentOn, Rests, OneHasFault, HasFault}
 use Rattle.site_workers.proofs.Stepping.{went_on}
 
 pub all_on : {N : Type 0} (m : Ghosts N) (us vs ws : List (WorkerView N)) → AllWentOn m us vs → AllWentOn m vs ws → AllWentOn m us ws

@@ -1,28 +1,16 @@
 -- One turn of a worker, and what it leads on to.
 use Rattle.std.proofs.Common.{◌≡◌, ◌≢◌, ℕ, zero, suc, ◌+◌, ◌<◌, ◌≤◌, nat_lt, Bool, true, false, ◌||◌, List, [], ◌∷◌, ◌++◌, length, Option, Some, None, is_some, filter, if◌then◌else◌, refl, sym, ap, ◌∙◌, subst, arith, append_assoc, length-append}
-use Rattle.std.specs.Prelude.{IfSome, IsTrue, Err}
-use mathlib.Core.List.{IsPrefix}
-use Rattle.std.specs.List.{list_any}
 use Rattle.std.proofs.lemmas.Bool.{ltb-true, ltb-false}
-use Rattle.std.proofs.lemmas.List.{append-nil}
 use Rattle.std.proofs.lemmas.List.Sums.{fold_push}
-use Rattle.std.proofs.lemmas.List.Elements.{filter-append}
-use Rattle.air_bus.specs.declared.entry.Entry.{Entry}
-use Rattle.air_bus.specs.declared.entry.Entry.TheVariants.{Begin, End, Stop}
+use Rattle.site_workers.proofs.Words.{Adds, Begin, Begins, End, Entry, Err, Ghosts, Grew, HasMet, IfSome, IsPrefix, IsTrue, KeepsPlan, Looks, NodeFault, Path, Reached, Sight, StandsAt, Stop, WentOn, WorkerView, append-nil, filter-append, is_begin, is_in_turn, is_stop, list_any, next_for, next_input, node_of, open_stops, phase, phase_after, stop_count}
 use Rattle.air_bus.specs.declared.entry.Input.{Input}
 use Rattle.air_bus.specs.declared.entry.Phase.TheVariants.{Busy}
 use Rattle.air_bus.specs.Copies.{Copy}
-use Rattle.air_bus.specs.History.{phase, phase_after, node_of, next_input}
 use Rattle.air_bus.proofs.Phases.{phase_here}
-use Rattle.bus_seat.specs.Seats.{Sight, Begins, Adds, Looks, next_for}
 use Rattle.site_node.specs.declared.kind.Done.{Done}
 use Rattle.site_node.specs.declared.kind.NodeDisk.{NodeDisk}
-use Rattle.site_node.specs.declared.kind.NodeFault.{NodeFault}
 use Rattle.site_node.specs.declared.kind.NodeFault.TheVariants.{Stopped, Damaged, Spent, Memory}
-use Rattle.site_node.specs.declared.kind.SiteNode.{Ghosts}
 use Rattle.site_node.specs.Faults.{MeetsStops, IsOfTurn, was_stopped, was_shut_out}
-use Rattle.site_workers.specs.Works.{WorkerView, Path, StandsAt, Reached, Grew, HasMet, KeepsPlan, is_begin, is_in_turn, is_stop, stop_count, open_stops}
-use Rattle.site_workers.specs.Rounds.{WentOn}
 
 pub none_of : {A : Type 0} (o : Option A) (b : Bool) → b ≡ is_some o → b ≡ false → o ≡ None
 none_of None b is off = refl
@@ -133,6 +121,15 @@ pub met_more : {N : Type 0} (faults : N → ℕ) (waits : N → Bool) (v w : N) 
     → (list_any is_stop new ≡ true → 1 ≤ faults w) × (stop_count new ≤ 8)
 met_more faults waits v w o old new e is never more met = grind (arith, counted_more, any_more)
 
+pub told_same : (f h : NodeFault) → Some f ≡ Some h → f ≡ h
+told_same f h e = cc
+
+-- and its open turn ended its work
+pub met_refused : {N : Type 0} (faults : N → ℕ) (waits : N → Bool) (v w : N) (o : Option NodeFault) (f : NodeFault) (old new : List Entry) (n : ℕ) (i : Input) → new ≡ old ++ Begin n i ∷ [] → f ≢ Stopped → faults v ≤ faults w → HasMet faults waits v o old → HasMet faults waits w (Some f) new
+met_refused faults waits v w o f old new n i is other more met =
+    let begun = met_more faults waits v w o old new (Begin n i) is refl more met in
+    record { up = λ none. absurd (cc none); stops = begun.0; most = begun.1; ended = λ was. absurd (other (told_same f Stopped was)); within = λ h was plain short. in_turn old new (Begin n i) is refl }
+
 -- whether it was the last stop
 last_stop : (b : Bool) (n : ℕ) (o : Option NodeFault) → nat_lt n 8 ≡ b → o ≡ (if b then None else Some Stopped) → (o ≡ Some Stopped → 8 ≤ n) × (o ≡ None → n < 8)
 last_stop true n o below told = (λ is. absurd (cc (sym told ∙ is)), λ none. ltb-true n 8 below)
@@ -170,9 +167,6 @@ module _ {N : Type 0} (m : Ghosts N) (v : N) (x : List Entry) where
   plan_left w h other kind up waits met = grind arith
 
 -- ---- a turn
-
-pub told_same : (f h : NodeFault) → Some f ≡ Some h → f ≡ h
-told_same f h e = cc
 
 -- a node that stopped too often is told as stopped
 pub too_often_told : (b : Bool) (o : Option NodeFault) (f : NodeFault) → o ≡ (if b then None else Some Stopped) → f ≢ Stopped → o ≢ Some f

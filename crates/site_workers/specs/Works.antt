@@ -3,7 +3,7 @@ use Rattle.std.specs.Prelude.{◌≡◌, ◌≢◌, ℕ, zero, suc, ◌+◌, ◌
 use Rattle.std.specs.List.{list_any}
 use mathlib.Core.List.{IsPrefix}
 use Rattle.air_bus.specs.declared.entry.Entry.{Entry}
-use Rattle.air_bus.specs.declared.entry.Entry.TheVariants.{Begin, End, Stop}
+use Rattle.air_bus.specs.declared.entry.Entry.TheVariants.{Begin, Stop}
 use Rattle.air_bus.specs.declared.entry.Input.{Input}
 use Rattle.air_bus.specs.declared.entry.Phase.{Phase}
 use Rattle.air_bus.specs.declared.entry.Phase.TheVariants.{Busy}

@@ -2,7 +2,6 @@
 ghost use Rattle.std.specs.Prelude.{◌≡◌, ◌++◌, IfOk, OnOk};
 ghost use Rattle.topology_journal.specs.Topologies.{IsTopology, row_bytes, rows_bytes, topology_record};
 
-use gate_journal::Payload;
 use std::alloc::{AllocError, Global};
 use time_shards::{ShardRow, Table};
 use wire_core::Bytes;
@@ -25,7 +24,7 @@ pub struct Topology {
 
 /// The record of a topology as it is written to its journal: the bytes 01 and 02, the joiners, the number of rows, and of
 /// each row its start as eight bytes, the high one first, and its count. One allocation.
-pub fn topology_frame(alloc: Global, topology: &Topology) -> Result<Payload, AllocError>
+pub fn topology_frame(alloc: Global, topology: &Topology) -> Result<Bytes, AllocError>
     requires { IsTopology topology.now }
     ensures { IfOk result (λ frame. frame ≡ topology_record topology.now) }
 {

@@ -1,6 +1,5 @@
 -- The values up to the first slot that has none.
-use Rattle.std.proofs.Common.{◌≡◌, ℕ, suc, ◌+◌, ◌||◌, Bool, true, false, List, [], ◌∷◌, ◌++◌, length, Option, Some, None, ⊎_elim, refl, sym, ap, ◌∙◌, subst, arith, length-append}
-use Rattle.std.specs.Prelude.{is_some}
+use Rattle.std.proofs.Common.{◌≡◌, ℕ, suc, ◌+◌, ◌||◌, Bool, true, false, List, [], ◌∷◌, ◌++◌, length, Option, Some, None, ⊎_elim, refl, sym, ap, ◌∙◌, subst, arith, length-append, is_some}
 use Rattle.verify_pass.proofs.Words.{OnTrue, OnFalse, contains, EventId, id_cmp, Batch, TimedRegistry, Knows, or_else, first_in, first_insert, first_insert-push, Ids, IsAt, IsWhole, HasAt, HasWhole, at_push, AreAt, IsFront}
 
 -- the value of the next slot goes behind them

@@ -1,6 +1,5 @@
 -- What is picked of a place's group is what is chosen there.
-use Rattle.std.proofs.Common.{◌≡◌, ℕ, zero, suc, ◌+◌, ◌*◌, ◌<◌, ◌≤◌, ◌==◌, List, [], ◌∷◌, ◌++◌, length, get_or, map, Bool, false, cond, ◌&&◌, ◌||◌, nat_lt, Option, Some, refl, sym, ap, ◌∙◌, append_assoc, arith}
-use Rattle.std.specs.Prelude.{filter, option_map, unwrap_or, Vec}
+use Rattle.std.proofs.Common.{◌≡◌, ℕ, zero, suc, ◌+◌, ◌*◌, ◌<◌, ◌≤◌, ◌==◌, List, [], ◌∷◌, ◌++◌, length, get_or, map, Bool, false, cond, ◌&&◌, ◌||◌, nat_lt, Option, Some, refl, sym, ap, ◌∙◌, append_assoc, arith, filter, option_map, unwrap_or, Vec}
 use Rattle.verify_pass.proofs.Words.{list_any, lookup, length-map, map-append, append-nil, map-map, list_any-append, nat_tests, Ballot, marked, Place, Note, is_place, is_acceptance, did_accept, is_chosen, all_accepted, least, lower, chosen, Batch, same_batch, note_view, place_of, ReplicaNote, Promised, Accepted, Acceptance, value_of, cast_of, did_replica, marks, is_most, accepts, casts, casts_from, batch_in, items_of}
 
 abbrev Value : Type 0

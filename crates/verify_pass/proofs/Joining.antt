@@ -1,6 +1,5 @@
 -- Lines of ids that rise, and what one pair more makes of them.
-use Rattle.std.proofs.Common.{◌≡◌, ⊎_elim, ◌<◌, ◌≤◌, ℕ, zero, suc, List, [], ◌∷◌, ◌++◌, true, false, map, length, get_or, set, Option, Err, IfSome, Box, box_value, refl, sym, ap, ◌∙◌, subst, arith}
-use Rattle.std.specs.Prelude.{filter}
+use Rattle.std.proofs.Common.{◌≡◌, ⊎_elim, ◌<◌, ◌≤◌, ℕ, zero, suc, List, [], ◌∷◌, ◌++◌, true, false, map, length, get_or, set, Option, Err, IfSome, Box, box_value, refl, sym, ap, ◌∙◌, subst, arith, filter}
 use Rattle.verify_pass.proofs.Words.{AllByRecursion, Batch, EventId, IsBinarySearchResult, IsStrictlySortedBy, Less, Less-from_sorted, Equal, Greater, Ordering, PairRec, ReportLine, TakesIn, cases_lt, first_pair, flat_map, get_or-map, id_cmp, id_of, is_eq, is_missing_by, joined, length-map, line_by, lines_by, map-map, map-set, missing_id, ordering_index, ordering_reverse, same_id, same_id-refl, sorted_head, sorted_tail, tied_back, unboxed}
 use Rattle.event_id.proofs.Order.{ids_total}
 use Rattle.verify_pass.proofs.Ids.{tied}

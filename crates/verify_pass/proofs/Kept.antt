@@ -1,6 +1,5 @@
 -- A list from which some elements are left out.
-use Rattle.std.proofs.Common.{◌≡◌, ◌<◌, ℕ, zero, suc, List, [], ◌∷◌, length, get_or, Bool, true, false, cond, sym, subst, arith}
-use Rattle.std.specs.Prelude.{filter, Contains}
+use Rattle.std.proofs.Common.{◌≡◌, ◌<◌, ℕ, zero, suc, List, [], ◌∷◌, length, get_or, Bool, true, false, cond, sym, subst, arith, filter, Contains}
 use Rattle.verify_pass.proofs.Words.{All-contains, filter_passes}
 
 kept : {A : Type 0} (f : A → Bool) (xs : List A) (x : A) (k : ℕ) → k < length xs → get_or xs k x ≡ x → f x ≡ true → Contains (filter f xs) x

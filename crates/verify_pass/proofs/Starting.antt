@@ -1,6 +1,5 @@
 -- What forbids a start, batch by batch.
-use Rattle.std.proofs.Common.{◌≡◌, ⊎_elim, ℕ, ◌<◌, ◌≤◌, Bool, List, [], ◌∷◌, ◌++◌, map, Option, Some, None, refl, sym, ◌∙◌, ap, arith, lt-ltb}
-use Rattle.std.specs.Prelude.{max, if◌then◌else◌}
+use Rattle.std.proofs.Common.{◌≡◌, ⊎_elim, ℕ, ◌<◌, ◌≤◌, Bool, List, [], ◌∷◌, ◌++◌, map, Option, Some, None, refl, sym, ◌∙◌, ap, arith, lt-ltb, max, if◌then◌else◌}
 use Rattle.verify_pass.proofs.Words.{option_map, flat_map, fold, flat_map-append, map-append, cases_lt, le-ltb, fold-append, Each, each_at, each_from, each_append, mem_left, mem_right, Note, note_view, ReplicaNote, EventId, Insert, Batch, bound_of, Latest, TooSoon, Bound, Id, batches_in, batches_of, inserts_of, lesser, least_with, least_from, too_soon_for, taken, IsEarlier, IsBefore}
 
 abbrev pub latest : ℕ → Option EventId → Latest

@@ -1,6 +1,5 @@
 -- What was found is what is decided.
-use Rattle.std.proofs.Common.{◌≡◌, ℕ, List, Some, map, arith}
-use Rattle.std.specs.Prelude.{slice_get}
+use Rattle.std.proofs.Common.{◌≡◌, ℕ, List, Some, map, arith, slice_get}
 use Rattle.verify_pass.proofs.Words.{Place, IsExact, decided_each, decided_longest, same_batch, same_batch-true, same_batch-refl, note_view, ReplicaNote, slots, batch_at, IsFront, IsWhole, KnowAll, Chosen, ShardRow, TimedRegistry, decided, shard_of}
 use Rattle.paxos_defs.specs.Decided as paxos
 

@@ -1,28 +1,16 @@
 -- The words of this crate's proofs: what they take from its definitions and from the crates below, under one name each.
 pub use Rattle.ballot_core.specs.Majority.{marked}
-pub use Rattle.ballot_core.specs.declared.Ballot.{Ballot}
-pub use Rattle.event_id.specs.EventId.{id_cmp, is_same as same_id}
-pub use Rattle.event_id.specs.declared.id.EventId.{EventId}
-pub use Rattle.id_expiry.specs.Timed.{Knows}
-pub use Rattle.id_expiry.specs.declared.timed.TimedRegistry.{TimedRegistry}
+pub use Rattle.verify_pass.specs.Terms.{Ballot, Batch, ClickRec, Each, EventId, Knows, Note, PairRec, Place, ReplicaNote, ReportLine, ShardRow, TimedRegistry, bound_of, first_in, first_insert, holder, id_cmp, is_place, note_view, place_of, same_batch, shard_count, shard_of}
+pub use Rattle.event_id.specs.EventId.{is_same as same_id}
 pub use Rattle.list_words.proofs.Lists.{each_append, each_at, each_from, mem_left, mem_right}
-pub use Rattle.list_words.specs.Lists.{Each}
 pub use Rattle.log_records.specs.Report.{distinct}
 pub use Rattle.log_records.specs.Rows.{one_click}
-pub use Rattle.log_records.specs.declared.records.ClickRec.{ClickRec}
-pub use Rattle.log_records.specs.declared.report.ReportLine.{ReportLine}
-pub use Rattle.paxos_acceptor.specs.Cells.{note_view, place_of}
-pub use Rattle.paxos_acceptor.specs.declared.notes.ReplicaNote.{ReplicaNote}
 pub use Rattle.paxos_acceptor.specs.declared.notes.ReplicaNote.TheVariants.{Accepted, Promised}
 pub use Rattle.paxos_defs.proofs.Decided.{at_push, decided_each, decided_longest}
 pub use Rattle.paxos_defs.specs.Decided.{IsExact, all_accepted, chosen, decided, did_accept, is_acceptance, is_chosen, least, lower}
-pub use Rattle.paxos_defs.specs.Notes.{Note, is_place}
-pub use Rattle.paxos_defs.specs.declared.Place.{Place}
 pub use Rattle.registry_state.proofs.Learning.{first_insert-push}
 pub use Rattle.registry_state.proofs.Tests.{same_batch-refl, same_batch-true, same_id-false, same_id-refl, same_id-true}
-pub use Rattle.registry_state.specs.LookBack.{bound_of, first_in, first_insert, holder, or_else}
-pub use Rattle.registry_state.specs.Same.{same_batch}
-pub use Rattle.registry_state.specs.declared.Batch.{Batch}
+pub use Rattle.registry_state.specs.LookBack.{or_else}
 pub use Rattle.registry_state.specs.declared.Insert.{Insert}
 pub use Rattle.registry_state.specs.declared.Token.{Token}
 pub use Rattle.std.proofs.lemmas.Bool.{and_parts, cases_lt, eq-eqb, le-ltb, ltb-false, ltb-true}
@@ -50,9 +38,7 @@ pub use Rattle.std.specs.Option.{option_map}
 pub use Rattle.std.specs.Ordering.{is_eq, ordering_index, ordering_reverse}
 pub use Rattle.std.specs.declared.cmp.Ordering.{Ordering}
 pub use Rattle.std.specs.declared.cmp.Ordering.TheVariants.{Equal, Greater, Less}
-pub use Rattle.time_shards.specs.Shards.{IsTable, shard_count, shard_of}
-pub use Rattle.time_shards.specs.declared.ShardRow.{ShardRow}
-pub use Rattle.turn_defs.specs.declared.pair.PairRec.{PairRec}
+pub use Rattle.time_shards.specs.Shards.{IsTable}
 pub use Rattle.verify_pass.specs.Chosen.{AreAt, EndsBy, IsFront, batch_at, batch_in, casts_at, group_at, group_in, items_of, slots}
 pub use Rattle.verify_pass.specs.Classes.{all_pairs, decided_for, first_pair, in_order, is_missing, is_missing_by, line_by, notes_of, unwritten_line}
 pub use Rattle.verify_pass.specs.Groups.{accepts, cast_of, casts, casts_from, did_replica, is_most, marks, value_of}

@@ -2,11 +2,7 @@
 use Rattle.std.specs.Prelude.{◌≡◌, ℕ, ◌<◌, List, [], length, map, slice_get, Option, Some, None, Vec}
 use Rattle.std.specs.Option.{option_map}
 use Rattle.std.specs.HashMap.{HashMap, get}
-use Rattle.ballot_core.specs.declared.Ballot.{Ballot}
-use Rattle.paxos_defs.specs.declared.Place.{Place}
-use Rattle.paxos_defs.specs.Notes.{is_place}
-use Rattle.registry_state.specs.declared.Batch.{Batch}
-use Rattle.paxos_acceptor.specs.Cells.{place_of}
+use Rattle.verify_pass.specs.Terms.{Ballot, Batch, Place, is_place, place_of}
 use Rattle.verify_pass.specs.Groups.{cast_of, picked}
 use Rattle.verify_pass.specs.declared.group.Acceptance.{Acceptance}
 use Rattle.verify_pass.specs.declared.chosen.Chosen.{Chosen}

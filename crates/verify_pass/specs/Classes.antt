@@ -2,19 +2,9 @@
 use Rattle.std.specs.Prelude.{Bool, not, ◌&&◌, is_some, nat_lt, List, [], ◌∷◌, map, find, if◌then◌else◌, Option, Some, None}
 use Rattle.std.specs.BTreeSet.{insert_key}
 use Rattle.std.specs.List.{flat_map}
-use Rattle.event_id.specs.declared.id.EventId.{EventId}
-use Rattle.event_id.specs.EventId.{is_same as same_id, id_cmp}
-use Rattle.registry_state.specs.declared.Batch.{Batch}
-use Rattle.registry_state.specs.LookBack.{holder, bound_of}
-use Rattle.registry_state.specs.Same.{same_batch}
-use Rattle.log_records.specs.declared.report.ReportLine.{ReportLine}
-use Rattle.log_records.specs.declared.report.ReportLine.TheVariants.{J, M, X, U}
-use Rattle.turn_defs.specs.declared.pair.PairRec.{PairRec}
-use Rattle.paxos_defs.specs.Notes.{Note}
+use Rattle.verify_pass.specs.Terms.{Batch, EventId, J, M, Note, PairRec, ReportLine, ShardRow, U, X, bound_of, holder, id_cmp, note_view, same_batch, shard_of}
+use Rattle.event_id.specs.EventId.{is_same as same_id}
 use Rattle.paxos_defs.specs.Decided as paxos
-use Rattle.paxos_acceptor.specs.Cells.{note_view}
-use Rattle.time_shards.specs.declared.ShardRow.{ShardRow}
-use Rattle.time_shards.specs.Shards.{shard_of}
 use Rattle.verify_pass.specs.declared.journals.Journals.{Journals}
 
 -- the replicas' notes in the terms of Paxos

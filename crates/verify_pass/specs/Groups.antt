@@ -1,15 +1,9 @@
 -- What the replicas accepted in a place, and which of it is chosen.
 use Rattle.std.specs.Prelude.{ℕ, zero, suc, ◌*◌, ◌==◌, ◌&&◌, ◌++◌, Bool, nat_lt, List, [], ◌∷◌, map, filter, Option}
 use Rattle.std.specs.List.{list_any}
-use Rattle.ballot_core.specs.declared.Ballot.{Ballot}
+use Rattle.verify_pass.specs.Terms.{Ballot, Batch, Place, ReplicaNote, note_view, same_batch, votes_at}
 use Rattle.ballot_core.specs.Majority.{marked}
-use Rattle.paxos_defs.specs.declared.Place.{Place}
-use Rattle.paxos_defs.specs.Notes.{votes_at}
 use Rattle.paxos_defs.specs.Decided as paxos
-use Rattle.registry_state.specs.declared.Batch.{Batch}
-use Rattle.registry_state.specs.Same.{same_batch}
-use Rattle.paxos_acceptor.specs.Cells.{note_view}
-use Rattle.paxos_acceptor.specs.declared.notes.ReplicaNote.{ReplicaNote}
 use Rattle.verify_pass.specs.declared.group.Acceptance.{Acceptance}
 
 -- an acceptance without its replica, and with it

@@ -1,3 +1,4 @@
+pub mod Terms
 pub mod Groups
 pub mod Chosen
 pub mod Classes

@@ -1,12 +1,7 @@
 -- Lines of ids that rise, and what pairs make of them.
 use Rattle.std.specs.Prelude.{◌≡◌, ◌++◌, ◌∷◌, [], List, map, Box, box_value}
 use Rattle.std.specs.List.Sorted.{IsStrictlySortedBy}
-use Rattle.event_id.specs.declared.id.EventId.{EventId}
-use Rattle.event_id.specs.EventId.{id_cmp}
-use Rattle.registry_state.specs.declared.Batch.{Batch}
-use Rattle.log_records.specs.declared.report.ReportLine.{ReportLine}
-use Rattle.log_records.specs.declared.report.ReportLine.TheVariants.{J, M, X, U}
-use Rattle.turn_defs.specs.declared.pair.PairRec.{PairRec}
+use Rattle.verify_pass.specs.Terms.{Batch, EventId, J, M, PairRec, ReportLine, U, X, id_cmp}
 use Rattle.verify_pass.specs.Classes.{first_pair, line_by}
 
 abbrev pub unboxed : {Z : Type 0} → List (Box ReportLine Z) → List ReportLine

@@ -1,20 +1,10 @@
 -- Worked rows: what small journals say of one id, whose shard is 3 of 4.
 use Rattle.std.specs.Prelude.{◌≡◌, ℕ, Bool, true, false, List, [], ◌∷◌, ◌++◌, map, Option, Some, None}
-use Rattle.ballot_core.specs.declared.Ballot.{Ballot}
-use Rattle.paxos_defs.specs.declared.Place.{Place}
+use Rattle.verify_pass.specs.Terms.{Ballot, Batch, ClickRec, J, M, PairRec, Place, ReplicaNote, ReportLine, ShardRow, U, X, note_view, same_batch}
 use Rattle.registry_state.specs.declared.Token.{Token}
 use Rattle.paxos_defs.specs.Decided as paxos
-use Rattle.registry_state.specs.declared.Batch.{Batch}
-use Rattle.registry_state.specs.Same.{same_batch}
-use Rattle.log_records.specs.declared.records.ClickRec.{ClickRec}
 use Rattle.log_records.specs.Rows.{one_click, one_query}
-use Rattle.log_records.specs.declared.report.ReportLine.{ReportLine}
-use Rattle.log_records.specs.declared.report.ReportLine.TheVariants.{J, M, X, U}
-use Rattle.turn_defs.specs.declared.pair.PairRec.{PairRec}
-use Rattle.paxos_acceptor.specs.Cells.{note_view}
-use Rattle.paxos_acceptor.specs.declared.notes.ReplicaNote.{ReplicaNote}
 use Rattle.paxos_acceptor.specs.declared.notes.ReplicaNote.TheVariants.{Promised, Accepted}
-use Rattle.time_shards.specs.declared.ShardRow.{ShardRow}
 use Rattle.verify_pass.specs.declared.journals.Journals.{Journals}
 use Rattle.verify_pass.specs.Classes.{line_of, is_missing}
 

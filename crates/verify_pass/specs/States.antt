@@ -1,15 +1,8 @@
 -- The registries of all shards.
 use Rattle.std.specs.Prelude.{◌≡◌, ℕ, ◌||◌, true, is_some, List, length, slice_get, Option, Some}
 use Rattle.std.specs.BTreeSet.{BTreeSet, contains}
-use Rattle.event_id.specs.EventId.{id_cmp}
-use Rattle.registry_state.specs.LookBack.{first_insert}
+use Rattle.verify_pass.specs.Terms.{Batch, EventId, Knows, ShardRow, TimedRegistry, first_insert, id_cmp, shard_of}
 use Rattle.verify_pass.specs.Chosen.{AreAt, IsFront}
-use Rattle.event_id.specs.declared.id.EventId.{EventId}
-use Rattle.registry_state.specs.declared.Batch.{Batch}
-use Rattle.id_expiry.specs.declared.timed.TimedRegistry.{TimedRegistry}
-use Rattle.id_expiry.specs.Timed.{Knows}
-use Rattle.time_shards.specs.declared.ShardRow.{ShardRow}
-use Rattle.time_shards.specs.Shards.{shard_of}
 
 -- the registry of each id's shard has applied the id's batches
 abbrev pub KnowAll : List TimedRegistry → List ShardRow → (EventId → List Batch) → Type 0

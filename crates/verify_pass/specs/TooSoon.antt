@@ -3,14 +3,9 @@ use Rattle.std.specs.Prelude.{ℕ, ◌<◌, ◌≤◌, nat_lt, max, List, [], �
 use Rattle.std.specs.Option.{option_map}
 use Rattle.std.specs.Ordering.{ord_min}
 use Rattle.std.specs.List.{flat_map, fold}
-use Rattle.list_words.specs.Lists.{Each}
-use Rattle.event_id.specs.declared.id.EventId.{EventId}
-use Rattle.event_id.specs.EventId.{id_cmp}
-use Rattle.paxos_defs.specs.Notes.{Note}
+use Rattle.verify_pass.specs.Terms.{Batch, Each, EventId, Note, bound_of, id_cmp}
 use Rattle.paxos_defs.specs.Notes.Note.{Promised, Accepted}
 use Rattle.registry_state.specs.declared.Insert.{Insert}
-use Rattle.registry_state.specs.declared.Batch.{Batch}
-use Rattle.registry_state.specs.LookBack.{bound_of}
 use Rattle.verify_pass.specs.declared.starts.Latest.{Latest}
 use Rattle.verify_pass.specs.declared.starts.TooSoon.{TooSoon}
 use Rattle.verify_pass.specs.declared.starts.TooSoon.TheVariants.{Bound, Id}

@@ -1,10 +1,8 @@
 // Which batch is chosen in each place.
 ghost use Rattle.std.specs.Prelude.{◌≡◌, ◌++◌, ◌∷◌, [], map, IfOk, OnOk, option_map, if◌then◌else◌};
 ghost use Rattle.paxos_defs.specs.declared.Place.{Place as Spot};
-ghost use Rattle.paxos_defs.specs.Notes.{is_place};
+ghost use Rattle.verify_pass.specs.Terms.{is_place, note_view, same_batch};
 ghost use Rattle.paxos_defs.specs.Decided as paxos;
-ghost use Rattle.registry_state.specs.Same.{same_batch};
-ghost use Rattle.paxos_acceptor.specs.Cells.{note_view};
 ghost use Rattle.verify_pass.specs.Groups.{casts};
 ghost use Rattle.verify_pass.specs.Chosen.{batch_at, casts_at, group_at, group_in, EndsBy};
 

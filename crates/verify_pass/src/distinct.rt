@@ -1,7 +1,7 @@
 // Ids, each once.
 ghost use Rattle.std.specs.Prelude.{◌≡◌, IfOk};
 ghost use Rattle.std.specs.List.Sorted.{IsStrictlySortedBy};
-ghost use Rattle.event_id.specs.EventId.{id_cmp};
+ghost use Rattle.verify_pass.specs.Terms.{id_cmp};
 ghost use Rattle.verify_pass.specs.Classes.{in_order};
 
 use event_id::EventId;

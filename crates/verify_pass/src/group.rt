@@ -1,7 +1,7 @@
 // Which batch of those that were accepted in a place is chosen there.
 ghost use Rattle.std.specs.Prelude.{◌≡◌, ◌==◌, ◌&&◌, ◌≤◌, Some, option_map, if◌then◌else◌};
 ghost use Rattle.ballot_core.specs.Ballots.{is_same};
-ghost use Rattle.registry_state.specs.Same.{same_batch};
+ghost use Rattle.verify_pass.specs.Terms.{same_batch};
 ghost use Rattle.paxos_defs.specs.Decided as paxos;
 ghost use Rattle.verify_pass.specs.Groups.{did_replica, is_cast_by, is_most, picked, value_of};
 

@@ -1,6 +1,6 @@
 //! When nothing forbids a start, and worked rows.
 ghost use Rattle.std.specs.Prelude.{◌≡◌, ◌↔◌, ℕ, List, None};
-ghost use Rattle.list_words.specs.Lists.{Each};
+ghost use Rattle.verify_pass.specs.Terms.{Each};
 ghost use Rattle.registry_state.specs.declared.Batch.{Batch as Value};
 ghost use Rattle.verify_pass.specs.Rows.{ApartRows, ChosenRows, ClassRows};
 ghost use Rattle.verify_pass.specs.TooSoon.{IsBefore, too_soon_for};

@@ -3,10 +3,8 @@ ghost use Rattle.std.specs.Prelude.{◌≡◌, ◌∷◌, [], List, length, map,
 ghost use Rattle.std.specs.List.{flat_map};
 ghost use Rattle.std.specs.List.Sorted.{IsBinarySearchResult, IsSearchInRange};
 ghost use Rattle.event_id.specs.declared.id.EventId.{EventId as Id};
-ghost use Rattle.event_id.specs.EventId.{id_cmp};
+ghost use Rattle.verify_pass.specs.Terms.{Knows, id_cmp, shard_count};
 ghost use Rattle.registry_state.specs.declared.Batch.{Batch as Value};
-ghost use Rattle.id_expiry.specs.Timed.{Knows};
-ghost use Rattle.time_shards.specs.Shards.{shard_count};
 ghost use Rattle.verify_pass.specs.Classes.{unwritten_line};
 ghost use Rattle.verify_pass.specs.Lines.{TakesIn, id_of, joined, unboxed};
 ghost use Rattle.verify_pass.specs.States.{KnowAll};

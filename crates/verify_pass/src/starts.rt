@@ -1,7 +1,7 @@
 // What lies too late for a row that starts so early.
 ghost use Rattle.std.specs.Prelude.{◌≡◌, List, map, max, None};
 ghost use Rattle.std.specs.List.{fold};
-ghost use Rattle.paxos_acceptor.specs.Cells.{note_view};
+ghost use Rattle.verify_pass.specs.Terms.{note_view};
 ghost use Rattle.registry_state.specs.declared.Batch.{Batch as KeptBatch};
 ghost use Rattle.verify_pass.specs.TooSoon.{batches_in, batches_of, least_from, least_with as with_least, taken, too_soon_for};
 

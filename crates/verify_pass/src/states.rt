@@ -3,11 +3,9 @@ ghost use Rattle.std.specs.Prelude.{◌≡◌, ◌<◌, ◌+◌, ◌||◌, ℕ, 
 ghost use Rattle.std.specs.BTreeSet.{contains};
 ghost use Rattle.std.specs.List.Sorted.{IsStrictlySortedBy};
 ghost use Rattle.event_id.specs.declared.id.EventId.{EventId as Id};
-ghost use Rattle.event_id.specs.EventId.{id_cmp};
+ghost use Rattle.verify_pass.specs.Terms.{first_in, first_insert, id_cmp, shard_count, shard_of};
 ghost use Rattle.registry_state.specs.declared.Batch.{Batch as Value};
 ghost use Rattle.id_expiry.specs.declared.timed.TimedRegistry.{TimedRegistry as State};
-ghost use Rattle.registry_state.specs.LookBack.{first_in, first_insert};
-ghost use Rattle.time_shards.specs.Shards.{shard_of, shard_count};
 ghost use Rattle.std.specs.Bool.{OnTrue, OnFalse};
 ghost use Rattle.verify_pass.specs.Chosen.{slots, EndsBy, IsFront};
 ghost use Rattle.verify_pass.specs.States.{Ids, Grows, IsAt, IsWhole, HasAt, HasWhole};

@@ -3,7 +3,7 @@ ghost use Rattle.std.specs.Prelude.{◌≡◌, ◌++◌, IfOk, OnOk, true, ◌�
 ghost use Rattle.std.specs.List.{flat_map};
 ghost use Rattle.std.specs.List.Sorted.{IsStrictlySortedBy};
 ghost use Rattle.event_id.specs.declared.id.EventId.{EventId as Id};
-ghost use Rattle.event_id.specs.EventId.{id_cmp};
+ghost use Rattle.verify_pass.specs.Terms.{id_cmp};
 ghost use Rattle.verify_pass.specs.Classes.{is_missing as is_unwritten};
 ghost use Rattle.verify_pass.specs.Lines.{missing_id, unboxed};
 

@@ -1,5 +1,5 @@
 // Bytes that are stored once and shared.
-ghost use Rattle.std.specs.Prelude.{◌≡◌, ◌≤◌, length, slice_range, IfOk, IfSome};
+ghost use Rattle.std.specs.Prelude.{◌≡◌, ℕ, List, Some, None, IfOk, IfSome, IfNone};
 
 use smallvec::SmallVec;
 use std::alloc::{AllocError, Global};
@@ -66,8 +66,12 @@ pub struct Origin<'a> {
 }
 
 impl<'a> Origin<'a> {
+    ghost use Rattle.wire_core.specs.Origin.{shared_up_to, StandsIn};
+
     /// Bytes of their own: of these nothing is shared.
-    pub fn new(alloc: Global) -> Origin<'a> {
+    pub fn new(alloc: Global) -> Origin<'a>
+        ensures { shared_up_to result ≡ None }
+    {
         Origin {
             alloc,
             within: None,
@@ -75,18 +79,22 @@ impl<'a> Origin<'a> {
     }
 
     /// The shared bytes up to this place.
-    pub fn within(alloc: Global, shared: &'a SharedBytes, end: usize) -> Origin<'a> {
+    pub fn within(alloc: Global, shared: &'a SharedBytes, end: usize) -> Origin<'a>
+        ensures { shared_up_to result ≡ Some (shared.now, end) }
+    {
         Origin {
             alloc,
             within: Some((shared, end)),
         }
     }
 
-    /// The shared bytes, and from where to where this part of them stands, so many bytes before the end. It compares the part
-    /// with what stands there.
+    /// The shared bytes, and from where to where this part of them stands, so many bytes before their place; nothing where
+    /// other bytes stand there, or none are shared.
     pub fn find(self, part: &[u8], behind: usize) -> Option<(&'a SharedBytes, usize, usize)>
-        ensures within { IfSome result (λ found. (found.1 ≤ found.2) × (found.2 ≤ length found.0.now)) }
-        ensures found { IfSome result (λ found. slice_range found.0.now found.1 found.2 ≡ part.now) }
+        ensures found { IfSome result (λ found.
+            StandsIn (shared_up_to self.entry) part.now behind found.0.now found.1 found.2) }
+        ensures none { IfNone result ((shared : List ℕ) (start end : ℕ) →
+            StandsIn (shared_up_to self.entry) part.now behind shared start end → ⊥) }
     {
         let (shared, end) = self.within?;
         let end = end.checked_sub(behind)?;

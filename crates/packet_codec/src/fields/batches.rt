@@ -22,6 +22,7 @@ impl Field for Batch {
 
     ghost has_spelling = { IsBatch };
 
+    #[tactic(auto, using(crate::proofs::Made::batch_bad, crate::proofs::Made::batch_apart, crate::proofs::Made::some_batch, crate::proofs::Counts::batch_room))]
     fn put(&self, to: &mut Bytes) -> Result<(), AllocError> {
         let mut bytes = [0; LONGEST];
         let end = write_batch(self, &mut bytes, 0);

@@ -67,6 +67,7 @@ impl Field for ReplicaNote {
 }
 
 // Writes the spelling to the front, and answers its length.
+#[tactic(auto, using(crate::proofs::NoteParts::note_apart, crate::proofs::NoteParts::some_note, crate::proofs::NoteParts::note_room))]
 fn write_note(n: &ReplicaNote, buf: &mut [u8; LONGEST]) -> usize
     requires { IsNote n.now }
     ensures within { result ≤ 1952 }

@@ -48,6 +48,7 @@ impl Field for Option<(Ballot, Batch)> {
     fn some_value() {}
 }
 
+#[tactic(auto, using(crate::proofs::Tagged::prior_apart, crate::proofs::Tagged::some_prior, crate::proofs::Counts::batch_room))]
 fn put_accepted(at: &Ballot, value: &Batch, to: &mut Bytes) -> Result<(), AllocError>
     requires is_ballot { IsBallot at.now }
     requires is_batch { IsBatch value.now }

@@ -1,6 +1,4 @@
-use Rattle.paxos_defs.proofs.Agreement.{agreed_one}
-use Rattle.paxos_defs.specs.Decided.{decided}
-use Rattle.paxos_defs.proofs.Decided.{decided_is, decided_begin}
+use Rattle.paxos_world.proofs.Words.{agreed_one, decided, decided_is, decided_begin}
 use Rattle.paxos_world.specs.World.{run, opened}
 use Rattle.paxos_world.proofs.Proposers.{after_run, empty_agree}
 use Rattle.paxos_world.proofs.agreement.Goals as goal

@@ -1,10 +1,7 @@
 // The store of a plan.
 ghost use Rattle.std.specs.Prelude.{◌≡◌, ◌≤◌, ◌++◌, ◌∷◌, [], ℕ, ◌&&◌, Some, IfOk, OnOk, if◌then◌else◌};
-ghost use Rattle.time_shards.specs.declared.TheConstants.{MOST_JOINERS};
-ghost use Rattle.outside.specs.declared.store.DiskName.{DiskName};
+ghost use Rattle.photon_cli.specs.Terms.{DiskName, MOST_JOINERS, fuses_for, is_planned};
 ghost use Rattle.outside.specs.Disk.{Only};
-ghost use Rattle.mem_outside.specs.Kept.{fuses_for};
-ghost use Rattle.mem_outside.specs.Plan.{is_planned};
 ghost use Rattle.photon_cli.specs.Planned.{named_by, place_of, is_at, is_for, fuse_of, planned_for};
 
 use crate::drill_store::names::{disk_at, is_named};

@@ -1,9 +1,7 @@
 // The disks of a run, by their kinds and their numbers among those of the kind.
 ghost use Rattle.std.specs.Prelude.{◌≡◌, ◌≤◌, ◌<◌, ◌-◌, false, nat_lt, if◌then◌else◌, Some, None};
-ghost use Rattle.time_shards.specs.declared.TheConstants.{MOST_JOINERS};
+ghost use Rattle.photon_cli.specs.Terms.{DiskName, MOST_JOINERS, same_name};
 ghost use Rattle.std.specs.Option.{option_map_or};
-ghost use Rattle.outside.specs.declared.store.DiskName.{DiskName};
-ghost use Rattle.mem_outside.specs.Kept.{same_name};
 ghost use Rattle.photon_cli.specs.Planned.{named_by, place_of, is_at};
 
 use crate::engine::REPLICAS;

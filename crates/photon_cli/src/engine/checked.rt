@@ -1,15 +1,14 @@
 // The two logs, opened and checked whole.
-ghost use Rattle.std.specs.Prelude.{◌≡◌, ℕ, List, map, IfOk, IfErr, IsSomeAnd, IsTrue, OnOk, Err};
-ghost use Rattle.outside.specs.Faults.{Counts};
+ghost use Rattle.std.specs.Prelude.{◌≡◌, ℕ, List, map, IfOk, IfErr, IsSomeAnd, IsTrue, Err};
+ghost use Rattle.photon_cli.specs.Terms.{Clicks, Counts, Queries};
 ghost use Rattle.log_records.specs.declared.records.QueryRec.{QueryRec as Query};
 ghost use Rattle.log_records.specs.declared.records.ClickRec.{ClickRec as Click};
 ghost use Rattle.log_records.specs.declared.why.Why.{Why as Reason};
-ghost use Rattle.log_records.specs.Check.{IsQueryLog, RefusesQuery, RefusesClick, Refuses as LogRefuses};
+ghost use Rattle.log_records.specs.Check.{Refuses as LogRefuses};
 ghost use Rattle.photon_cli.specs.CheckedLogs.{EndsAt, IsChecked};
 ghost use Rattle.run_fault.specs.declared.fault.LogName.{LogName as LogKind};
-ghost use Rattle.run_fault.specs.declared.fault.LogName.TheVariants.{Queries, Clicks};
 ghost use Rattle.run_fault.specs.declared.fault.RunFault.TheVariants as fault;
-ghost use Rattle.photon_cli.specs.Join.{AreLogs, HasIds, Refuses};
+ghost use Rattle.photon_cli.specs.Join.{AreLogs, Refuses};
 ghost use Rattle.photon_cli.specs.LogFaults.{IsLogFault, failed_read};
 
 use crate::log_check::{CheckFault, Lines, check_log};
@@ -18,9 +17,9 @@ use outside::Source;
 use site_run::{LogName, RunFault, open_log};
 use std::alloc::Global;
 
-// Opens the log of that name, checks it whole, line by line, and shuts it. No more than a line of it, and 16 bytes for each id that is
-// kept, are held in memory.
-fn check_in<K: Record, F: Source>(
+/// Opens the log of that name, checks it whole, line by line, and shuts it. No more than a line of it, and 16 bytes for each id that
+/// is kept, are held in memory.
+pub fn check_in<K: Record, F: Source>(
     alloc: Global,
     files: &mut F,
     name: &str,
@@ -48,35 +47,6 @@ fn check_in<K: Record, F: Source>(
     }
 }
 
-/// Checks the whole query log.
-fn check_queries_in<F: Source>(alloc: Global, files: &mut F, name: &str) -> Result<Lines, RunFault>
-    ensures found { IsTrue F.Log.tells → OnOk result (IsSomeAnd (F.bytes files.old name.now) (λ log. (qs : List Query) × IsQueryLog log qs)) }
-    ensures refused { IsTrue F.Log.tells → (line : ℕ) (w : Reason) → result ≡ Err (fault.Refused Queries line w) → IsSomeAnd (F.bytes files.old name.now) (λ log. RefusesQuery log (record { line = line; why = w })) }
-    ensures same { IsTrue F.Log.tells → (n : List ℕ) → F.bytes files.new n ≡ F.bytes files.old n }
-    ensures fault { IfErr result (IsLogFault Queries) }
-    ensures count { Counts (F.faults files.old) (F.faults files.new) (result ≡ Err (failed_read Queries)) }
-{
-    match check_in::<QueryRec, F>(alloc, files, name, LogName::Queries, false) {
-        Ok(lines) => Ok(lines),
-        Err(fault) => Err(fault),
-    }
-}
-
-/// Checks the whole click log, and gives the ids of its clicks in their order, and the end of its last whole line.
-pub fn clicks_in_log<F: Source>(alloc: Global, files: &mut F, name: &str) -> Result<Lines, RunFault>
-    ensures found { IsTrue F.Log.tells → IfOk result (λ checked. IsSomeAnd (F.bytes files.old name.now) (λ log. HasIds log checked.ids.items)) }
-    ensures end { IsTrue F.Log.tells → IfOk result (λ checked. IsSomeAnd (F.bytes files.old name.now) (λ log. EndsAt log checked.end)) }
-    ensures refused { IsTrue F.Log.tells → (line : ℕ) (w : Reason) → result ≡ Err (fault.Refused Clicks line w) → IsSomeAnd (F.bytes files.old name.now) (λ log. RefusesClick log (record { line = line; why = w })) }
-    ensures same { IsTrue F.Log.tells → (n : List ℕ) → F.bytes files.new n ≡ F.bytes files.old n }
-    ensures fault { IfErr result (IsLogFault Clicks) }
-    ensures count { Counts (F.faults files.old) (F.faults files.new) (result ≡ Err (failed_read Clicks)) }
-{
-    match check_in::<ClickRec, F>(alloc, files, name, LogName::Clicks, true) {
-        Ok(lines) => Ok(lines),
-        Err(fault) => Err(fault),
-    }
-}
-
 /// Checks both logs whole, the queries first, and gives the clicks' ids.
 pub fn checked_logs<F: Source>(
     alloc: Global,
@@ -92,7 +62,7 @@ pub fn checked_logs<F: Source>(
     ensures fault { IfErr result (λ f. (log : LogKind) × IsLogFault log f) }
     ensures count { Counts (F.faults files.old) (F.faults files.new) ((log : LogKind) × (result ≡ Err (failed_read log))) }
 {
-    check_queries_in(alloc, files, queries)?;
-    let checked = clicks_in_log(alloc, files, clicks)?;
+    check_in::<QueryRec, F>(alloc, files, queries, LogName::Queries, false)?;
+    let checked = check_in::<ClickRec, F>(alloc, files, clicks, LogName::Clicks, true)?;
     Ok(checked)
 }

@@ -1,8 +1,6 @@
 // A drill: both sites run over a store in memory that is empty at first, and a plan says what goes wrong.
 ghost use Rattle.std.specs.Prelude.{◌≡◌, ◌⊎◌, ℕ, IfErr, IfOk, IfSome, IsErrAnd, IsTrue, OnOk, Err};
-ghost use Rattle.outside.specs.Faults.{Counts};
-ghost use Rattle.command_words.specs.Words.{AreInRanges, values_in};
-ghost use Rattle.lossy_link.specs.Fates.{PlanView};
+ghost use Rattle.photon_cli.specs.Terms.{AreInRanges, Counts, PlanView, values_in};
 ghost use Rattle.lossy_link.specs.declared.bad_plan.Field.{Field as Place};
 ghost use Rattle.log_records.specs.declared.why.Why.{Why as Reason};
 ghost use Rattle.run_fault.specs.declared.fault.LogName.{LogName as LogKind};

@@ -1,16 +1,11 @@
 // The whole join.
 ghost use Rattle.std.specs.Prelude.{◌≡◌, ◌⊎◌, ℕ, IfErr, IfSome, IsErrAnd, OnOk, IsTrue, Err};
-ghost use Rattle.outside.specs.Faults.{Counts, Rose};
+ghost use Rattle.photon_cli.specs.Terms.{AreInRanges, Counts, EndsOver, NamesFailed, Rose, Setting, StorePlace, values_in};
 ghost use Rattle.log_records.specs.declared.why.Why.{Why as Reason};
 ghost use Rattle.run_fault.specs.declared.fault.LogName.{LogName as LogKind};
-ghost use Rattle.run_fault.specs.declared.fault.StorePlace.{StorePlace};
-ghost use Rattle.turn_defs.specs.Setting.{Setting};
 ghost use Rattle.run_fault.specs.declared.fault.RunFault.TheVariants as fault;
-ghost use Rattle.site_run.specs.Over.{EndsOver};
-ghost use Rattle.site_run.specs.Refused.{NamesFailed};
 ghost use Rattle.photon_cli.specs.LogFaults.{IsEarly, IsFailedRead, IsOfLogs, IsPast};
 ghost use Rattle.photon_cli.specs.Join.{BeginsJoin, HasRun, IsAsked, IsHistory, Prints, PrintsAfresh, PrintsPrefix, Refuses, no_plan};
-ghost use Rattle.command_words.specs.Words.{AreInRanges, values_in};
 
 use super::checked::checked_logs;
 use super::run::config_in;

@@ -1,7 +1,6 @@
 // The front of a log, read into memory.
 ghost use Rattle.std.specs.Prelude.{◌≡◌, ◌≤◌, ◌<◌, ◌+◌, ◌++◌, ◌^◌, ℕ, List, length, take, drop, vec_len, IfOk, IsTrue, Err};
-ghost use Rattle.outside.specs.Faults.{Counts};
-ghost use Rattle.outside.specs.declared.faults.OpenFault.TheVariants.{Read};
+ghost use Rattle.photon_cli.specs.Terms.{Counts, Read};
 
 use outside::{LogFile, OpenFault};
 use std::alloc::Global;

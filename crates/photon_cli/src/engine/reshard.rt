@@ -1,6 +1,6 @@
 // The command `reshard`, with its exit status.
 ghost use Rattle.std.specs.Prelude.{◌≡◌};
-ghost use Rattle.outside.specs.Faults.{Rose};
+ghost use Rattle.photon_cli.specs.Terms.{Rose};
 ghost use Rattle.photon_cli.specs.Reshard.{ReshardEnds};
 ghost use Rattle.photon_cli.specs.Status.{IsAnswered};
 

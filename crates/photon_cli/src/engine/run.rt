@@ -1,7 +1,7 @@
 // What both sites are run for.
 ghost use Rattle.std.specs.Prelude.{◌≡◌};
 ghost use Rattle.turn_defs.specs.Configs.{IsRunnable};
-ghost use Rattle.command_words.specs.Words.{AreInRanges, values_in};
+ghost use Rattle.photon_cli.specs.Terms.{AreInRanges, values_in};
 ghost use Rattle.photon_cli.specs.Join.{config_of};
 ghost use Rattle.photon_cli.specs.Words.{IsTextOf};
 

@@ -1,34 +1,22 @@
 // A verification: no node runs, and what the disks keep is reported.
 ghost use Rattle.std.specs.Prelude.{◌≡◌, ◌⊎◌, ℕ, List, map, None, Some, IfErr, IfOk, OnOk, IsErrAnd, IsSomeAnd, IsTrue, Err, ⊤};
 ghost use Rattle.std.specs.List.{list_any};
-ghost use Rattle.outside.specs.declared.store.DiskName.{DiskName};
-ghost use Rattle.outside.specs.Faults.{Counts, Rose};
-ghost use Rattle.time_shards.specs.declared.ShardRow.{ShardRow};
+ghost use Rattle.photon_cli.specs.Terms.{Clicks, Counts, DiskName, IsSoundStore, IsWelcome, LeavesSomething, RefusesClick, Rose, Setting, ShardRow, StaysAs, U, distinct, end_from, is_missing};
 ghost use Rattle.log_records.specs.declared.records.ClickRec.{ClickRec as Click};
 ghost use Rattle.log_records.specs.declared.why.Why.{Why as Reason};
-ghost use Rattle.log_records.specs.Check.{RefusesClick};
-ghost use Rattle.log_records.specs.Lines.{end_from};
-ghost use Rattle.log_records.specs.Report.{distinct, is_missing};
-ghost use Rattle.log_records.specs.declared.report.ReportLine.TheVariants.{U};
-ghost use Rattle.run_fault.specs.declared.fault.LogName.TheVariants.{Clicks};
 ghost use Rattle.run_fault.specs.declared.fault.StorePlace.{StorePlace as Place};
 ghost use Rattle.topology_journal.specs.declared.topology.Topology.{Topology as KeptTopology};
-ghost use Rattle.turn_defs.specs.Setting.{Setting};
-ghost use Rattle.gate_journal.specs.Images.{StaysAs};
-ghost use Rattle.site_laws.specs.Stores.{IsSoundStore};
-ghost use Rattle.site_store.specs.Causes.{LeavesSomething};
 ghost use Rattle.verify_pass.specs.Classes.{line_of};
 ghost use Rattle.run_fault.specs.declared.fault.RunFault.TheVariants as fault;
-ghost use Rattle.run_fault.specs.Causes.{IsWelcome};
 ghost use Rattle.photon_cli.specs.Causes.{CanBeRead, HasCauseInVerify, IsOverLog};
 ghost use Rattle.photon_cli.specs.LogFaults.{IsFailedRead, IsLogFault, IsOfRun, IsOfVerify, IsPast};
 ghost use Rattle.photon_cli.specs.Verify.{IsReadFrom, IsReadable, PrintsKept, PrintsKeptPrefix};
 ghost use Rattle.photon_cli.specs.declared.engine.run.TheConstants.{REPLICAS};
 
-use super::checked::clicks_in_log;
+use super::checked::check_in;
 use super::run::REPLICAS;
 use event_id::EventId;
-use log_records::ReportLine;
+use log_records::{ClickRec, ReportLine};
 use outside::{Sink, Source, Store};
 use report_text::write_report;
 use site_run::{LogName, RunFault, open_log};
@@ -152,7 +140,7 @@ pub fn verify_store<F: Source, S: Store, K: Sink>(
     ensures write { Counts (K.faults out.old) (K.faults out.new) (result ≡ Err fault.Write) }
     ensures disks { Counts (S.faults store.old) (S.faults store.new) ((place : Place) × (result ≡ Err (fault.Store place))) }
 {
-    let checked = match clicks_in_log(alloc, files, clicks) {
+    let checked = match check_in::<ClickRec, F>(alloc, files, clicks, LogName::Clicks, true) {
         Ok(checked) => checked,
         Err(refused) => return Err(refused),
     };

@@ -1,10 +1,8 @@
 // Whole logs.
 ghost use Rattle.std.specs.Prelude.{◌≡◌, ◌≢◌, ◌<◌, ◌↔◌, List, length, Err, IfOk, IsErr, IsTrue};
-ghost use Rattle.outside.specs.Faults.{Counts};
+ghost use Rattle.photon_cli.specs.Terms.{Counts, MAX_LOG, Refuses};
 ghost use Rattle.log_records.specs.declared.check.BadLine.{BadLine as Bad};
-ghost use Rattle.log_records.specs.declared.check.TheConstants.{MAX_LOG};
 ghost use Rattle.log_records.specs.declared.why.Why.TheVariants as why;
-ghost use Rattle.log_records.specs.Check.{Refuses};
 ghost use Rattle.photon_cli.specs.declared.log_check.check.CheckFault.TheVariants as fault;
 ghost use Rattle.photon_cli.specs.CheckedLogs.{IsChecked};
 

@@ -1,13 +1,9 @@
 // The next line of a log.
 ghost use Rattle.std.specs.Prelude.{◌≡◌, ◌↔◌, ◌++◌, ◌∷◌, ◌≤◌, List, ℕ, length, take, IfOk, IsErr, IsTrue};
-ghost use Rattle.list_words.specs.Bytes.{Lacks};
-ghost use Rattle.outside.specs.Faults.{Counts};
-ghost use Rattle.tail_reader.specs.Buffered.{behind};
+ghost use Rattle.photon_cli.specs.Terms.{Counts, Keeps, Lacks, behind, line_feed};
 ghost use Rattle.tail_reader.specs.Next.{IsNext};
 ghost use Rattle.tail_reader.specs.declared.tail.Next.TheVariants as next;
 ghost use Rattle.log_records.specs.declared.lines.TheConstants.{MAX_LINE};
-ghost use Rattle.log_records.specs.FirstPlaces.{Keeps};
-ghost use Rattle.log_records.specs.Log.{line_feed};
 ghost use Rattle.photon_cli.specs.ReadLines.{SoFar, IsStep};
 
 use event_id::EventId;

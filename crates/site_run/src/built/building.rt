@@ -2,11 +2,7 @@
 ghost use Rattle.std.specs.Prelude.{◌≡◌, ◌≤◌, ◌<◌, ◌+◌, ◌*◌, ◌++◌, [], ◌∷◌, ℕ, length, map, slice_index_or, vec_capacity, IsTrue, IfOk, IfErr, false};
 ghost use Rattle.std.specs.List.{All};
 ghost use Rattle.std.specs.List.Sorted.{IsPermutation};
-ghost use Rattle.turn_defs.specs.Setting.{Setting};
-ghost use Rattle.photon_model.specs.Runs.{Disks};
-ghost use Rattle.site_store.specs.Refusals.{other_names};
-ghost use Rattle.site_store.specs.Records.{lent_all, topology_lent};
-ghost use Rattle.turn_defs.specs.Configs.{IsRunnable};
+ghost use Rattle.site_run.specs.Terms.{Disks, IsRunnable, Setting, lent_all, other_names, topology_lent};
 ghost use Rattle.site_run.specs.Making.{AreEnough, IsRoomFor, IsStart, disks_in, logs_in, view_of};
 ghost use Rattle.site_run.specs.Running.{AreDownOver};
 ghost use Rattle.site_run.specs.Heard.{kinds_of};

@@ -1,8 +1,7 @@
 // Nodes are taken apart.
 ghost use Rattle.std.specs.Prelude.{◌≡◌, ◌≤◌, ◌<◌, ◌+◌, ◌-◌, ◌*◌, ◌++◌, [], ◌∷◌, ℕ, List, map, length, vec_len, vec_capacity, refl};
 ghost use Rattle.outside.specs.declared.store.DiskName.TheVariants as name;
-ghost use Rattle.site_store.specs.Lent.{Lent};
-ghost use Rattle.turn_defs.specs.declared.config.Config.{Config};
+ghost use Rattle.site_run.specs.Terms.{Config, Lent};
 ghost use Rattle.site_run.specs.Naming.{as_lent, all_from, of_dispatcher, of_server, of_replica, of_joiner, place_of, site_of, joiner_of};
 ghost use Rattle.site_workers.specs.FourKinds as one;
 

@@ -54,7 +54,7 @@ impl<D: Disk, L: LogFile> Stock<D, L> {
             D.tells L.bytes number (view_of self.old) result (view_of self.new) }
     {
         let site = number - 2;
-        let journal = take_disk(&mut self.rest, DiskName::Server(site)).into_server();
+        let journal = take_disk(&mut self.rest, DiskName::Server(site)).into_epochs();
         match ServerNode::new(self.alloc, site, self.config, journal) {
             Ok(node) => Some(OneOf::Second(node)),
             Err(journal) => {

@@ -1,6 +1,6 @@
 // What a node is made of is taken out of the rest.
 ghost use Rattle.std.specs.Prelude.{◌≡◌, ◌<◌, ◌++◌, [], ◌∷◌, map, vec_len, vec_capacity};
-ghost use Rattle.list_words.specs.Lists.{Mem};
+ghost use Rattle.site_run.specs.Terms.{Mem};
 ghost use Rattle.site_run.specs.Naming.{IsTakenFrom};
 
 use outside::{Disk, DiskName};

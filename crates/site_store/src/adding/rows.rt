@@ -1,6 +1,6 @@
 //! Worked rows of what is answered to a row.
 ghost use Rattle.std.specs.Prelude.{◌≡◌, [], ◌∷◌, Some, None, Ok, Err};
-ghost use Rattle.log_records.specs.Rows.{one_click};
+ghost use Rattle.site_store.specs.Terms.{one_click};
 ghost use Rattle.run_fault.specs.declared.fault.Unfit.TheVariants.{NoTopology, Rows, Start, Bound, Id};
 ghost use Rattle.site_store.specs.Rows.{a_bound, an_id, answered, with_rows};
 

@@ -1,10 +1,6 @@
 // All disks of a state directory.
 ghost use Rattle.std.specs.Prelude.{◌≡◌, ◌≤◌, ◌+◌, ◌∷◌, ℕ, List, length, IsTrue, IfOk, IfErr, OnErr};
-ghost use Rattle.list_words.specs.Lists.{Each};
-ghost use Rattle.outside.specs.declared.store.DiskName.{DiskName};
-ghost use Rattle.outside.specs.Faults.{added};
-ghost use Rattle.gate_journal.specs.declared.journal.JournalState.TheVariants.{Ready};
-ghost use Rattle.gate_journal.specs.Images.{StaysAs};
+ghost use Rattle.site_store.specs.Terms.{DiskName, Each, Ready, StaysAs, added};
 ghost use Rattle.site_store.specs.Kinds.{joiners_kept};
 ghost use Rattle.site_store.specs.Lent.{IsLent, MayBeLeft};
 ghost use Rattle.site_store.specs.Plans.{AreAsPlanned, IsByPlan};

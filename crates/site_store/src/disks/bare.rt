@@ -1,7 +1,6 @@
 // An open store whose notes and pairs are given away.
 ghost use Rattle.std.specs.Prelude.{◌≡◌, ◌≤◌, ◌<◌, ◌+◌, ◌++◌, [], ◌∷◌, ℕ, List, flat_map, length, vec_capacity, IsTrue, IfOk, IfErr};
-ghost use Rattle.outside.specs.declared.store.DiskName.{DiskName};
-ghost use Rattle.outside.specs.Faults.{added};
+ghost use Rattle.site_store.specs.Terms.{DiskName, added};
 ghost use Rattle.site_store.specs.Lent.{MayBeLeft};
 ghost use Rattle.site_store.specs.LentDisks.{all_lent, lent_of};
 ghost use Rattle.site_store.specs.ReadBack.{notes_in, pairs_in};

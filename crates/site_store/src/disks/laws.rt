@@ -1,7 +1,6 @@
 //! What opening leaves and what growth leaves.
 ghost use Rattle.std.specs.Prelude.{◌⊎◌};
-ghost use Rattle.outside.specs.declared.store.DiskName.{DiskName};
-ghost use Rattle.gate_journal.specs.Images.{StaysAs, GoesOn};
+ghost use Rattle.site_store.specs.Terms.{DiskName, GoesOn, StaysAs};
 ghost use Rattle.site_store.specs.Orders.{left_at, IsOrder};
 
 use outside::Store;

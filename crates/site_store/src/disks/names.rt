@@ -1,7 +1,6 @@
 // The names of the disks, in the order in which they are opened.
 ghost use Rattle.std.specs.Prelude.{◌≡◌, ◌<◌, ◌++◌, ℕ, IfOk, OnOk};
-ghost use Rattle.outside.specs.declared.store.DiskName.{DiskName};
-ghost use Rattle.photon_model.specs.Journals.{values_from};
+ghost use Rattle.site_store.specs.Terms.{DiskName, values_from};
 ghost use Rattle.site_store.specs.Refusals.{other_names};
 
 use outside::DiskName;

@@ -1,5 +1,5 @@
 // An open disk of a store.
-ghost use Rattle.gate_journal.specs.declared.journal.JournalState.TheVariants.{Ready};
+ghost use Rattle.site_store.specs.Terms.{Ready};
 
 use epoch_journal::EpochJournal;
 use gate_journal::JournalFault;
@@ -51,7 +51,7 @@ impl<D: Disk> Model for OpenDisk<D> {
 }
 
 impl<D: Disk> OpenDisk<D> {
-    ghost use Rattle.std.specs.Prelude.{◌≡◌, ℕ, false, IsTrue, IfOk, IfErr};
+    ghost use Rattle.std.specs.Prelude.{◌≡◌, ◌⊎◌, ℕ, false, IsTrue, IfOk, IfErr};
     ghost use Rattle.outside.specs.Plans.{MeetsPlan};
     ghost use Rattle.gate_journal.specs.Fault.{is_of_disk};
     ghost use Rattle.outside.specs.declared.store.DiskName.TheVariants as name;
@@ -165,19 +165,6 @@ impl<D: Disk> OpenDisk<D> {
         }
     }
 
-    /// The journal of a server's epochs.
-    pub fn into_server(self) -> EpochJournal<D>
-        requires { (site : ℕ) × (self.name ≡ name.Server site) }
-        ensures disk { self.disk ≡ result.journal.disk }
-        ensures kept { self.kept ≡ EpochIs result.value.epoch }
-        ensures ready { result.journal.state ≡ Ready }
-    {
-        match self.journal {
-            AnyJournal::Epoch(journal) => journal,
-            _ => unreachable!(),
-        }
-    }
-
     /// The journal of a replica.
     pub fn into_votes(self) -> VoteJournal<D>
         requires { (replica : ℕ) × (self.name ≡ name.Replica replica) }
@@ -191,9 +178,9 @@ impl<D: Disk> OpenDisk<D> {
         }
     }
 
-    /// The journal of a joiner's epochs.
+    /// The journal of a server's epochs, or of a joiner's.
     pub fn into_epochs(self) -> EpochJournal<D>
-        requires { (site : ℕ) × (joiner : ℕ) × (self.name ≡ name.Epoch site joiner) }
+        requires { ((site : ℕ) × (self.name ≡ name.Server site)) ⊎ ((site : ℕ) × (joiner : ℕ) × (self.name ≡ name.Epoch site joiner)) }
         ensures disk { self.disk ≡ result.journal.disk }
         ensures kept { self.kept ≡ EpochIs result.value.epoch }
         ensures ready { result.journal.state ≡ Ready }

@@ -1,9 +1,6 @@
 // Taking disks from a store and giving them back.
 ghost use Rattle.std.specs.Prelude.{◌≡◌, ◌≢◌, ◌≤◌, ◌+◌, ◌∷◌, [], ℕ, List, length, map, IsTrue, IfOk, IfErr, OnOk, OnErr};
-ghost use Rattle.list_words.specs.Lists.{Each};
-ghost use Rattle.outside.specs.declared.store.DiskName.{DiskName};
-ghost use Rattle.outside.specs.Disk.{Within};
-ghost use Rattle.gate_journal.specs.Images.{StaysAs, IsKeptIn};
+ghost use Rattle.site_store.specs.Terms.{DiskName, Each, IsKeptIn, StaysAs, Within};
 ghost use Rattle.site_store.specs.Lent.{IsLent, MayBeLeft};
 ghost use Rattle.site_store.specs.Plans.{AreAsPlanned, IsByPlan};
 ghost use Rattle.site_store.specs.Records.{IsOfKind, KeepsAs, AllKept, IsKept, kept_by, lent_all, lent_by};

@@ -1,11 +1,6 @@
 // The record of a topology.
 ghost use Rattle.std.specs.Prelude.{◌≡◌, ◌≤◌, false, ◌⊎◌, ℕ, List, Some, IsTrue, OnOk, OnErr, IfErr, IsErrOf};
-ghost use Rattle.gate_journal.specs.declared.journal.JournalState.TheVariants.{Ready};
-ghost use Rattle.topology_journal.specs.Topologies.{MayCome};
-ghost use Rattle.gate_journal.specs.Opening.{IsOpened};
-ghost use Rattle.gate_journal.specs.Images.{StaysAs, GoesOn};
-ghost use Rattle.run_fault.specs.declared.fault.RunFault.TheVariants.{Memory};
-ghost use Rattle.outside.specs.Plans.{AtMost, MeetsPlan};
+ghost use Rattle.site_store.specs.Terms.{AtMost, GoesOn, IsOpened, MayCome, MeetsPlan, Memory, Ready, StaysAs};
 ghost use Rattle.site_store.specs.Written.{IsWritten, IsUnwritten};
 
 use outside::{Disk, DiskName};

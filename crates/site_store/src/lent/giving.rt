@@ -1,9 +1,6 @@
 // Giving disks back.
 ghost use Rattle.std.specs.Prelude.{◌≡◌, ◌≤◌, ◌+◌, ℕ, List, length, IsTrue};
-ghost use Rattle.list_words.specs.Lists.{Each, Mem};
-ghost use Rattle.outside.specs.declared.store.DiskName.{DiskName};
-ghost use Rattle.outside.specs.Disk.{Within};
-ghost use Rattle.outside.specs.Faults.{Rose};
+ghost use Rattle.site_store.specs.Terms.{DiskName, Each, Mem, Rose, Within};
 ghost use Rattle.site_store.specs.Lent.{Lent, Lacks, MayBeLeft};
 ghost use Rattle.site_store.specs.LentDisks.{all_lent};
 

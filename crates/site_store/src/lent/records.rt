@@ -1,7 +1,6 @@
 // The records of one disk, read again.
 ghost use Rattle.std.specs.Prelude.{◌≡◌, ◌≤◌, false, IsTrue, IfOk, IfErr};
-ghost use Rattle.outside.specs.Disk.{Throughout};
-ghost use Rattle.outside.specs.Plans.{MeetsPlan};
+ghost use Rattle.site_store.specs.Terms.{MeetsPlan, Throughout};
 ghost use Rattle.gate_journal.specs.Fault.{disk_failed};
 ghost use Rattle.gate_journal.specs.Records.{Keeps, IsRefused};
 

@@ -1,9 +1,6 @@
 // A store whose disks are opened and judged, for a run with what is asked, or for a verification, which asks nothing.
 ghost use Rattle.std.specs.Prelude.{◌≡◌, ◌≤◌, ◌+◌, ◌∷◌, length, IsTrue, IfOk, IfErr, OnErr};
-ghost use Rattle.outside.specs.declared.store.DiskName.{DiskName};
-ghost use Rattle.outside.specs.Faults.{Rose};
-ghost use Rattle.gate_journal.specs.declared.journal.JournalState.TheVariants.{Ready};
-ghost use Rattle.gate_journal.specs.Images.{StaysAs};
+ghost use Rattle.site_store.specs.Terms.{DiskName, Ready, Rose, StaysAs};
 ghost use Rattle.site_store.specs.Lent.{IsLent};
 ghost use Rattle.site_store.specs.Plans.{AreAsPlanned, IsByPlan};
 ghost use Rattle.site_store.specs.Records.{AreKept, values_of, lent_all, topology_lent};

@@ -1,6 +1,6 @@
 // Whether what opened disks keep can be run or read.
 ghost use Rattle.std.specs.Prelude.{◌≡◌, ◌≤◌, IsTrue, IfSome, IfNone, MatchOption};
-ghost use Rattle.outside.specs.Faults.{Rose};
+ghost use Rattle.site_store.specs.Terms.{Rose};
 ghost use Rattle.site_store.specs.Misfits.{IsFitFor};
 ghost use Rattle.site_store.specs.Records.{values_of};
 ghost use Rattle.site_store.specs.Causes.{AreTold, ArePassed, IsOther, IsUnfit};

@@ -1,20 +1,11 @@
 // A store opened for a run of both sites.
 ghost use Rattle.std.specs.Prelude.{◌≡◌, ◌≢◌, ◌≤◌, ◌+◌, ◌∷◌, Bool, length, map, Some, Option, IsTrue, true, IfOk, IfErr, OnErr};
-ghost use Rattle.outside.specs.declared.store.DiskName.{DiskName};
+ghost use Rattle.site_store.specs.Terms.{AreLeft, DiskName, Disks, GoesOn, IsLogOf, IsSoundStore, IsTopology, IsWelcome, Rose, Setting, StaysAs, WholeSound, end_from};
 ghost use Rattle.outside.specs.declared.store.DiskName.TheVariants as name;
-ghost use Rattle.outside.specs.Faults.{Rose};
-ghost use Rattle.gate_journal.specs.Images.{StaysAs, GoesOn};
 ghost use Rattle.topology_journal.specs.declared.topology.Topology.{Topology as KeptTopology};
-ghost use Rattle.topology_journal.specs.Topologies.{IsTopology};
-ghost use Rattle.log_records.specs.Lines.{end_from};
-ghost use Rattle.turn_defs.specs.Setting.{Setting};
-ghost use Rattle.dispatch_node.specs.Places.{IsLogOf};
-ghost use Rattle.photon_model.specs.Runs.{Disks};
-ghost use Rattle.photon_model.specs.Topology.{Topology as StoreTopology, topology_of, WholeSound};
-ghost use Rattle.site_laws.specs.Stores.{IsSoundStore, AreLeft};
+ghost use Rattle.photon_model.specs.Topology.{Topology as StoreTopology, topology_of};
 ghost use Rattle.run_fault.specs.declared.fault.StorePlace.TheVariants.{Disk as OfDisk};
 ghost use Rattle.run_fault.specs.declared.fault.RunFault.TheVariants.{Store as StoreFailed};
-ghost use Rattle.run_fault.specs.Causes.{IsWelcome};
 ghost use Rattle.site_store.specs.Refusals.{other_names};
 ghost use Rattle.site_store.specs.Plans.{AreAsPlanned, IsByPlan};
 ghost use Rattle.site_store.specs.Records.{AreKept, AreRecordsOf, values_of, kept_all, lent_all, topology_lent};

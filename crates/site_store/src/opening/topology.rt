@@ -1,11 +1,7 @@
 // The topology's record of opened disks.
 ghost use Rattle.std.specs.Prelude.{◌≡◌, ◌≤◌, false, Some, IsTrue, OnOk, OnErr, IfErr, IsErrOf};
-ghost use Rattle.gate_journal.specs.declared.journal.JournalState.TheVariants.{Ready};
-ghost use Rattle.topology_journal.specs.Topologies.{IsTopology};
-ghost use Rattle.run_fault.specs.declared.fault.RunFault.TheVariants.{Memory};
-ghost use Rattle.gate_journal.specs.Images.{StaysAs, GoesOn};
+ghost use Rattle.site_store.specs.Terms.{AtMost, GoesOn, IsTopology, MeetsPlan, Memory, Ready, StaysAs};
 ghost use Rattle.site_store.specs.Misfits.{IsFit};
-ghost use Rattle.outside.specs.Plans.{AtMost, MeetsPlan};
 ghost use Rattle.site_store.specs.Written.{AllKeep, StaysOrKeeps, IsUnwritten};
 
 use crate::write_topology;

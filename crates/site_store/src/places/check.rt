@@ -1,8 +1,6 @@
 // The kept places, against the lines of the click log.
 ghost use Rattle.std.specs.Prelude.{◌≡◌, [], ◌∷◌, List, IfOk, IsErr, IsTrue};
-ghost use Rattle.outside.specs.Faults.{Counts};
-ghost use Rattle.outside.specs.declared.store.DiskName.TheVariants.{Offset, Retry};
-ghost use Rattle.log_records.specs.Lines.{ClickLine, HoldsLines, end_from};
+ghost use Rattle.site_store.specs.Terms.{ClickLine, Counts, HoldsLines, Offset, Retry, end_from};
 ghost use Rattle.site_store.specs.Causes.{AreTold};
 ghost use Rattle.site_store.specs.Kept.{on_disk, places_at, IsTold};
 ghost use Rattle.site_store.specs.Records.{kept_all};

@@ -1,6 +1,6 @@
 // The last line feed before a place of a log.
 ghost use Rattle.std.specs.Prelude.{◌≡◌, ◌≤◌, ◌<◌, ◌+◌, ◌^◌, ℕ, List, length, drop, take, IfOk, IsErr, IsTrue};
-ghost use Rattle.outside.specs.Faults.{Counts};
+ghost use Rattle.site_store.specs.Terms.{Counts};
 ghost use Rattle.site_store.specs.Floors.{IsFloorOf, IsFloorFrom, IsBehindFeed};
 
 use memchr::memrchr;

@@ -1,8 +1,6 @@
 //! Worked rows of the definitions.
 ghost use Rattle.std.specs.Prelude.{◌≡◌, [], ◌∷◌, Some, None};
-ghost use Rattle.outside.specs.declared.store.DiskName.TheVariants.{Offset, Retry};
-ghost use Rattle.log_records.specs.Lines.{placed};
-ghost use Rattle.log_records.specs.Rows.{one_click};
+ghost use Rattle.site_store.specs.Terms.{Offset, Retry, one_click, placed};
 ghost use Rattle.site_store.specs.Kept.{on_disk, IsTold};
 ghost use Rattle.site_store.specs.Rows.{one_line};
 

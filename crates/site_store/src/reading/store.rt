@@ -1,14 +1,7 @@
 // A store read for verification.
 ghost use Rattle.std.specs.Prelude.{◌≡◌, ◌≤◌, Some, None, IsTrue, IfOk, IfErr};
-ghost use Rattle.outside.specs.declared.store.DiskName.{DiskName};
-ghost use Rattle.outside.specs.Faults.{Rose};
-ghost use Rattle.run_fault.specs.Causes.{IsWelcome};
+ghost use Rattle.site_store.specs.Terms.{DiskName, GoesOn, IsLogOf, IsSoundStore, IsWelcome, Rose, Setting, StaysAs, end_from};
 ghost use Rattle.topology_journal.specs.declared.topology.Topology.{Topology as KeptTopology};
-ghost use Rattle.log_records.specs.Lines.{end_from};
-ghost use Rattle.turn_defs.specs.Setting.{Setting};
-ghost use Rattle.dispatch_node.specs.Places.{IsLogOf};
-ghost use Rattle.gate_journal.specs.Images.{StaysAs, GoesOn};
-ghost use Rattle.site_laws.specs.Stores.{IsSoundStore};
 ghost use Rattle.site_store.specs.Leaving.{IsAsked};
 ghost use Rattle.site_store.specs.Causes.{IsCause, LeavesSomething};
 ghost use Rattle.site_store.specs.Reading.{IsRead};

@@ -1,5 +1,5 @@
 use Rattle.std.proofs.Common.{◌≡◌, take, vec_len}
-use Rattle.std.specs.Prelude.{vec_capacity}
+use Rattle.bus_seat.proofs.Words.{vec_capacity}
 use Rattle.bus_seat.proofs.bus.seen_of.Given as goal
 
 abbrev pub invariant-loop-seat : goal.invariant-loop-seat

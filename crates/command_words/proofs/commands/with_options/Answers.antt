@@ -1,11 +1,8 @@
 use Rattle.std.proofs.Common.{◌≡◌, ◌∙◌, ◌+◌, ◌<◌, ◌++◌, ◌||◌, ℕ, suc, Bool, List, [], ◌∷◌, length, map, take, sym, ap, ap₂, arith}
 use Rattle.std.proofs.Math.Seq.{take-suc}
-use Rattle.std.specs.Prelude.{get_or}
-use Rattle.std.proofs.lemmas.List.{map-append}
-use Rattle.clap.specs.Simple.{App, app_of, new_shape, with_rule}
-use Rattle.clap.specs.Walk.{Rule, Text, rule_of}
+use Rattle.command_words.proofs.Words.{App, Rule, app_of, app_with, get_or, map-append, new_shape, option_in, rule_of, rule_of_option, with_rule}
+use Rattle.clap.specs.Walk.{Text}
 use Rattle.command_words.specs.declared.options.Opt.{Opt as Entry}
-use Rattle.command_words.specs.Clap.{app_with, option_in, rule_of_option}
 use Rattle.command_words.proofs.commands.with_options.Goals as goal
 
 -- the rules of one option more

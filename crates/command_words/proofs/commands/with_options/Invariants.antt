@@ -1,7 +1,6 @@
 use Rattle.std.proofs.Common.{◌≡◌, map, take, false}
-use Rattle.clap.specs.Simple.{app_of}
+use Rattle.command_words.proofs.Words.{app_of, app_with, option_in}
 use Rattle.clap.specs.declared.builder.command.Command.TheViews.{out-Command as fields_of}
-use Rattle.command_words.specs.Clap.{app_with, option_in}
 use Rattle.command_words.proofs.commands.with_options.Given as goal
 
 -- the command has the options so far

@@ -1,7 +1,4 @@
-use Rattle.clap.specs.Matches.{found_of}
-use Rattle.clap.specs.Walk.{rows_of}
-use Rattle.command_words.specs.Words.{HaveValues, IsReadable, bulk, options_of}
-use Rattle.command_words.specs.Clap.{number_in, text_in}
+use Rattle.command_words.proofs.Words.{HaveValues, IsReadable, bulk, found_of, number_in, options_of, rows_of, text_in}
 use Rattle.command_words.specs.declared.options.TheConstants.{MOST_CLICKS}
 use Rattle.command_words.proofs.parse.bulk.Goals as goal
 

@@ -1,8 +1,5 @@
 use Rattle.std.proofs.Common.{true≢false, sym, arith}
-use Rattle.clap.specs.Matches.{found_of}
-use Rattle.clap.specs.Walk.{rows_of}
-use Rattle.command_words.specs.Words.{HaveValues, IsReadable, node_options}
-use Rattle.command_words.specs.Clap.{number_in, text_in}
+use Rattle.command_words.proofs.Words.{HaveValues, IsReadable, found_of, node_options, number_in, rows_of, text_in}
 use Rattle.command_words.proofs.parse.nodes.Goals as goal
 
 pub returns-in_err-small-clause-reads : goal.returns-in_err-small-clause-reads

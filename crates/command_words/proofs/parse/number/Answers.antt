@@ -1,11 +1,6 @@
 use Rattle.std.proofs.Common.{◌≡◌, ◌≤◌, None, rules, ℕ, List, Option, Result, sym, subst}
-use Rattle.std.specs.Prelude.{IfSome, IsSomeAnd, option_map}
-use Rattle.std.specs.Option.{option_or}
-use Rattle.std.specs.Str.Parse.{ParsesUnsigned, ExplainsUnsignedError, HasUnsignedDigitsIfOk}
 use Rattle.std.specs.declared.num.ParseIntError.{ParseIntError}
-use Rattle.clap.specs.Matches.{found_of}
-use Rattle.clap.specs.Values.{IsUnsignedIn}
-use Rattle.clap.specs.Walk.{one_of, rows_of}
+use Rattle.command_words.proofs.Words.{ExplainsUnsignedError, HasUnsignedDigitsIfOk, IfSome, IsSomeAnd, IsUnsignedIn, ParsesUnsigned, found_of, one_of, option_map, option_or, rows_of}
 use Rattle.command_words.proofs.Numbers.{its_default, no_default, none_given, number_failed, number_given, number_within, written}
 use Rattle.command_words.proofs.parse.number.Goals as goal
 

@@ -1,8 +1,5 @@
 use Rattle.std.proofs.Common.{◌∷◌}
-use Rattle.clap.specs.Matches.{found_of}
-use Rattle.clap.specs.Walk.{rows_of}
-use Rattle.command_words.specs.Words.{HaveValues, IsReadable, horizon, node_options}
-use Rattle.command_words.specs.Clap.{number_in, text_in}
+use Rattle.command_words.proofs.Words.{HaveValues, IsReadable, found_of, horizon, node_options, number_in, rows_of, text_in}
 use Rattle.command_words.proofs.parse.run.Goals as goal
 
 pub returns-in_err-number-clause-reads : goal.returns-in_err-number-clause-reads

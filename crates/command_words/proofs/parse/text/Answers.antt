@@ -1,9 +1,6 @@
 use Rattle.std.proofs.Common.{◌∙◌, [], Option, ap}
-use Rattle.std.specs.Prelude.{option_map, unwrap_or}
-use Rattle.std.specs.Option.{option_or}
-use Rattle.clap.specs.Matches.{found_of}
+use Rattle.command_words.proofs.Words.{Text, found_of, option_map, option_or, unwrap_or}
 use Rattle.clap.proofs.WalkLemmas.{first_value-rows}
-use Rattle.command_words.specs.Words.{Text}
 use Rattle.command_words.proofs.Numbers.{or_default}
 use Rattle.command_words.proofs.parse.text.Goals as goal
 

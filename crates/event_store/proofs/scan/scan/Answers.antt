@@ -1,13 +1,7 @@
 use Rattle.std.proofs.Common.{◌≡◌, ◌<◌, ◌∙◌, ℕ, List, Option, refl, sym, subst, arith}
 use Rattle.event_store.proofs.Words.{EventId, ReadsNext, TellsId, Starts}
 use Rattle.event_store.proofs.Looking.{looked_at, is_told, not_told}
-use Rattle.event_store.proofs.Firsts.{none_in_front}
 use Rattle.event_store.proofs.scan.scan.Goals as goal
-
-pub returns-then-place-end-clause-found : goal.returns-then-place-end-clause-found
-returns-then-place-end-clause-found g c = λ t front lines walk none all.
-    let had = (c.lines.invariant.lacking t front lines walk none all).1 in
-    none_in_front (g.L.LogFile.bytes c.args.tail.now.log) c.args.end c.lines.tail.place lines had.0 c.args.id all had.1 (omega (arith, c.place-place.ensures, c.if-place-end.true)) had.2
 
 pub returns-then-eq-clause-found : goal.returns-then-eq-clause-found
 returns-then-eq-clause-found g c = λ t front lines walk none all.
@@ -28,8 +22,3 @@ lines-preserved g c = record {
       let n = looked_at log c.lines.tail.place c.next_id.new.tail.place c.args.end lines c.args.id told had.1 all (omega (arith, c.place-place.ensures, c.if-place-end.false)) (λ next read step. subst (λ (text : List ℕ). (c.next_id.new.tail.place ≡ next) × TellsId text read told) c.text_into-len.ensures.text (c.in_ok-next_id.ensures.line t next read (subst (λ (l : List ℕ). ReadsNext l c.lines.tail.place next read) (sym (c.lines.invariant.same t)) step))) in
       (omega (arith, had.0, n.0), n.2 (not_told _ (λ a b. refl) told c.args.id c.if-eq.ensures));
 }
-
-pub returns-clause-found : goal.returns-clause-found
-returns-clause-found g c = λ t front lines walk none all.
-    let had = c.lines.invariant.lacking t front lines walk none all in
-    none_in_front (g.L.LogFile.bytes c.args.tail.now.log) c.args.end c.lines.tail.place lines had.1.0 c.args.id all had.1.1 (omega (arith, had.0, c.lines-test.false)) had.1.2

@@ -1,5 +1,5 @@
 use Rattle.std.proofs.Common.{ap, length, ◌∙◌}
-use Rattle.std.proofs.lemmas.Result.{IfOk-weaker}
+use Rattle.log_records.proofs.Words.{IfOk-weaker}
 use Rattle.log_records.proofs.Reading.{clicks_same}
 use Rattle.log_records.proofs.WholeLogs.{clicks_found, clicks_right, only_answer}
 use Rattle.log_records.proofs.check.check_clicks.Goals as goal

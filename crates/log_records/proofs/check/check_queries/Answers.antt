@@ -1,5 +1,5 @@
 use Rattle.std.proofs.Common.{ap, length, ◌∙◌}
-use Rattle.std.proofs.lemmas.Result.{IfOk-weaker}
+use Rattle.log_records.proofs.Words.{IfOk-weaker}
 use Rattle.log_records.proofs.Reading.{queries_same}
 use Rattle.log_records.proofs.WholeLogs.{queries_found, queries_right, only_answer}
 use Rattle.log_records.proofs.check.check_queries.Goals as goal

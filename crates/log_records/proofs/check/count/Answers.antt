@@ -1,6 +1,6 @@
 use Rattle.std.proofs.Common.{inr, length, arith}
+use Rattle.log_records.proofs.Words.{line_feed}
 use Rattle.log_records.specs.declared.why.Why.TheVariants as why
-use Rattle.log_records.specs.Log.{line_feed}
 use Rattle.list_words.proofs.Cuts.{front_lacks, none_lacks}
 use Rattle.log_records.proofs.LogWalk.{number_fits, ends, too_big, line_too_big, line_bad, told_as}
 use Rattle.log_records.proofs.check.count.Goals as goal

@@ -1,6 +1,5 @@
 use Rattle.std.proofs.Common.{Contains, sym, ◌∙◌, subst, ap, arith}
-use Rattle.std.proofs.lemmas.Result.{err_from_is_err_and}
-use Rattle.log_records.specs.Line.{space, tail, head, IsIdText}
+use Rattle.log_records.proofs.Words.{IsIdText, err_from_is_err_and, head, space, tail}
 use Rattle.log_records.proofs.Grammar.{has_space, SpacedTwice, wrong_click_text, wrong_click_id, wrong_query_id, click_parts_are}
 use Rattle.log_records.proofs.lines.click_parts.Goals as goal
 

@@ -1,6 +1,5 @@
 use Rattle.std.proofs.Common.{Contains, sym, ◌∙◌, subst, arith}
-use Rattle.std.proofs.lemmas.Result.{err_from_is_err_and}
-use Rattle.log_records.specs.Line.{space, head, IsIdText}
+use Rattle.log_records.proofs.Words.{IsIdText, err_from_is_err_and, head, space}
 use Rattle.log_records.proofs.Grammar.{has_space, wrong_text, wrong_id, query_parts_are}
 use Rattle.log_records.proofs.lines.query_parts.Goals as goal
 

@@ -1,4 +1,4 @@
-use Rattle.std.proofs.lemmas.Result.{err_from_is_err_and}
+use Rattle.log_records.proofs.Words.{err_from_is_err_and}
 use Rattle.log_records.proofs.FirstLines.{keeps_push, told_after}
 use Rattle.log_records.proofs.seen.accept.Goals as goal
 

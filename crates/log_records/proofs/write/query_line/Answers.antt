@@ -1,5 +1,5 @@
 use Rattle.std.proofs.Common.{length, ap, arith}
-use Rattle.event_id.proofs.Spelling.{length-spell-le}
+use Rattle.log_records.proofs.Words.{length-spell-le}
 use Rattle.log_records.proofs.write.query_line.Goals as goal
 
 pub put_id-at-requires : goal.put_id-at-requires

@@ -1,8 +1,5 @@
-use Rattle.packet_codec.proofs.PacketParts.{packet_apart, packet_one}
+use Rattle.packet_codec.proofs.PacketParts.{packet_one}
 use Rattle.packet_codec.proofs.rows.one_spelling.Goals as goal
 
 pub returns-clause-one : goal.returns-clause-one
 returns-clause-one c = packet_one
-
-pub returns-clause-apart : goal.returns-clause-apart
-returns-clause-apart c = packet_apart

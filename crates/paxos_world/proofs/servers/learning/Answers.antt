@@ -1,7 +1,5 @@
-use Rattle.paxos_defs.specs.Decided.{decided}
-use Rattle.paxos_defs.proofs.Agreement.{agreed_one}
-use Rattle.paxos_defs.proofs.Decided.{decided_is, decided_begin, chosen_begin}
-use Rattle.paxos_world.specs.ServersWorld.{run, opened, learned_of}
+use Rattle.paxos_world.proofs.Words.{decided, agreed_one, decided_is, decided_begin, chosen_begin, learned_of}
+use Rattle.paxos_world.specs.ServersWorld.{run, opened}
 use Rattle.paxos_world.proofs.Learners.{after_run, learned_chosen}
 use Rattle.paxos_world.proofs.servers.learning.Goals as goal
 

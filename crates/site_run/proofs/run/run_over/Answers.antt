@@ -1,5 +1,4 @@
-use Rattle.std.proofs.Common.{◌≡◌, ◌∷◌, [], ℕ, List, arith, length-append, true, None, Some, inl, refl, sym, ◌∙◌, ap, subst, length, map}
-use Rattle.std.specs.Prelude.{IfErr, IfSome, IsTrue}
+use Rattle.std.proofs.Common.{◌≡◌, ◌∷◌, [], ℕ, List, arith, length-append, true, None, Some, inl, refl, sym, ◌∙◌, ap, subst, length, map, IfErr, IfSome, IsTrue}
 use Rattle.outside.specs.declared.store.DiskName.TheVariants as name
 use Rattle.run_fault.specs.declared.fault.RunFault.TheVariants as fault
 use Rattle.site_store.specs.Plans.{IsAsPlanned, Left}
@@ -97,7 +96,8 @@ returns-clause-over g c tells log_tells gg checked is =
     let keeps = subst (λ t. KeepsItsRecord image gg t) (sym same) (keeps_so asked_of image before inside topology others (o.lent tells) gg asked refl) in
     let idle : c.run_system.new.ran.log ≡ None → (disk : DiskName) (b : List ℕ) → after disk b → MayBeLeft image inside (topology ∷ others) disk b
     = λ none disk b now. may_behind image inside topology others _ c.in-Ok-build.ensures.held disk b (may_same image inside _ _ _ disk b same (run.idle tells none disk b now)) in
-    let whole : IfErr c.run_system.result (IsOfRun gg built from_there c.run_system.new.ran.log) = run.whole tells node_tells gg built is.logs.numbers held c.all_met.ensures down keeps in
+    let nodes = run.over tells node_tells gg built is.logs.numbers held c.all_met.ensures down keeps in
+    let whole : IfErr c.run_system.result (IsOfRun gg built from_there c.run_system.new.ran.log) = nodes.named in
     let named = names_kept d.disks.items ∙ o.named ∙ ap (λ n. other_names n c.args.config.now.replicas) (sym (ap (λ k. k.joiners) is.logs.numbers)) ∙ ap (other_names gg.config.joiners) (sym (ap (λ k. k.replicas) is.logs.numbers)) in
     record {
       ends = record {
@@ -106,8 +106,8 @@ returns-clause-over g c tells log_tells gg checked is =
               let sure = o.whole tells gg built asked (ap (λ k. k.replicas) is.logs.numbers) sound begun.records in
               run_sound c.run_system.new.ran.log gg after (record { topology = Some (topology_of gg); disks = built; is_used = sure.0 }) checked sure.1 refl (c.run.ensures gg c.run_system.new.store)
               (λ none. still_sound asked_of image before inside topology others (o.lent tells) refl apart after (idle none) gg asked (c.topology_first.ensures gg c.args.store.now c.run_system.new.store) sound)
-              (run.left tells node_tells gg built built is.logs.numbers held down (λ n among. refl) keeps);
-          grown = λ disk. run.grown tells node_tells gg built c.args.store.now is.logs.numbers held down (out_same image before inside _ _ _ (sym same) (moved_out image before inside topology others _ c.in-Ok-build.ensures.held out)) disk;
+              (nodes.left built (λ n among. refl));
+          grown = nodes.grown c.args.store.now (out_same image before inside _ _ _ (sym same) (moved_out image before inside topology others _ c.in-Ok-build.ensures.held out));
         };
         idle = λ none disk other. other_stays asked_of image before inside topology others (o.lent tells) refl apart after (idle none) disk other;
         passed = on_ok_of c.run_system.result (passed_so gg before asked_of asked _ (ap (λ k. k.replicas) is.logs.numbers) g.S.Disk.Disk.tells g.F.Log.LogFile.tells tells log_tells (g.F.Log.LogFile.bytes c.take_last-read.result) c.args.end first is.ends (values_of {D = g.row.S-Disk.Denot} o.kept.0 d.disks.items) o.kept.1 o.kept.2);
@@ -115,9 +115,9 @@ returns-clause-over g c tells log_tells gg checked is =
             (λ f from of. cause_so gg before all_kept o.kept.2.limits (o.kept.1.kept tells) built begun.records named c.run_system.new.ran.log logs_rose disks_rose from_there later f (counted_more f logs_rose from_there logs_rose disks_rose (λ rose. rose) later from) of);
         welcome = λ sound. IfErr-weaker c.run_system.result _ _ (λ f of. welcome_so gg built from_there _ c.run_system.new.ran.log f of) whole;
       };
-      left = run_left c.run_system.new.ran.log gg before after were_kept all_kept were.1 begun.records (subst (λ k. IfSome c.run_system.new.ran.log (λ l. l.opened ≡ k)) (c.kept_by_all-kept.ensures ∙ ap (λ k. kept_all {D = g.row.S-Disk.Denot} k) c.deref.ensures.value) run.opened) (λ d' same. run.left tells node_tells gg built d' is.logs.numbers held down same keeps);
+      left = run_left c.run_system.new.ran.log gg before after were_kept all_kept were.1 begun.records (subst (λ k. IfSome c.run_system.new.ran.log (λ l. l.opened ≡ k)) (c.kept_by_all-kept.ensures ∙ ap (λ k. kept_all {D = g.row.S-Disk.Denot} k) c.deref.ensures.value) run.opened) nodes.left;
       rest = rest_earlier gg before before after (λ disk b now. now) c.run_system.result c.run_system.new.ran.log _ _ later
-          (rest_left c.run_system.result c.run_system.new.ran.log gg before after were_kept from_there were.1 (λ d' same. run.rest tells node_tells gg built d' is.logs.numbers held c.all_met.ensures down same keeps));
+          (rest_left c.run_system.result c.run_system.new.ran.log gg before after were_kept from_there were.1 nodes.rest);
       named = IfErr-weaker c.run_system.result _ _ (λ f of. named_so gg built from_there c.run_system.new.ran.log f of) whole;
     }
 

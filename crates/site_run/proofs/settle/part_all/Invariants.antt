@@ -1,5 +1,4 @@
-use Rattle.std.proofs.Common.{◌≡◌, ◌+◌, ◌*◌, ◌≤◌, ◌++◌, map, length}
-use Rattle.std.specs.Prelude.{vec_capacity}
+use Rattle.std.proofs.Common.{◌≡◌, ◌+◌, ◌*◌, ◌≤◌, ◌++◌, map, length, vec_capacity}
 use Rattle.site_run.proofs.Words.{into_iter_items, into_iter_len, as_lent, all_from, or_else, first_fault}
 use Rattle.site_run.proofs.settle.part_all.Given as goal
 

@@ -1,8 +1,8 @@
-use Rattle.std.specs.Prelude.{IsTrue}
-use Rattle.std.proofs.Common.{◌≡◌, ⊎_elim, ℕ, ◌<◌, List, ◌++◌, ◌∷◌, length, map, sym, ap, ◌∙◌, subst, arith}
-use Rattle.site_run.proofs.Words.{length-map, IfErr-weaker, Each, Mem, mem_right, Rose, KeepsPairs, Config, Kind, Setting, Disks, count_of, kinds_of, node_count, MayBeLeft, KeepsNotes, made_by, stop_count, as_lent, all_from, AreDownOver, IsRunFrom, IsOfDisks, AreKeptIn, AreUp, lent_replicas, lent_outputs}
+use Rattle.std.proofs.Common.{◌≡◌, ⊎_elim, ℕ, ◌<◌, List, ◌++◌, ◌∷◌, length, map, sym, ap, ◌∙◌, subst, arith, IsTrue}
+use Rattle.site_run.proofs.Words.{DiskName, RunLog, SameRecords, length-map, IfErr-weaker, Each, Mem, mem_right, Rose, KeepsPairs, Config, Kind, Setting, Disks, count_of, kinds_of, node_count, MayBeLeft, KeepsNotes, made_by, stop_count, as_lent, all_from, AreDownOver, IsRunFrom, IsOfDisks, AreKeptIn, AreUp, lent_replicas, lent_outputs}
 use Rattle.site_run.proofs.Opened.{down_too}
 use Rattle.site_run.proofs.Standing.{have_grown, runs_from}
+use Rattle.site_run.proofs.Entered.{none_left}
 use Rattle.site_run.proofs.Dead.{dead_replicas, kinds_count}
 use Rattle.site_run.proofs.Outing.{given_goes_on}
 use Rattle.site_run.proofs.Running.{same_count, goes_on, has_run, rests, no_stops, fault_told, first_told, first_ended, disks_alone, read_back_of, at_rest, disks_counted, none_at}
@@ -12,7 +12,7 @@ use Rattle.site_store.specs.Plans.{Left}
 use Rattle.site_store.proofs.Planned.{each_calm}
 use Rattle.site_run.proofs.system.run_system.Given.{Over}
 use Rattle.site_run.proofs.system.run_system.Goals as goal
-use Rattle.site_run.proofs.system.run_system.Goals.{After-settle}
+use Rattle.site_run.proofs.system.run_system.Goals.{After-give_parts, After-settle}
 
 -- there are as many nodes as the setting has, and these are their kinds
 module _ (g : Setting) (c : Config) (of : g.config ≡ c) where
@@ -50,37 +50,8 @@ settle-requires-after_bounds g c =
     let same = same_count (disks_of c.args.config.now) g.N.SiteNode.disk_count (laws.counted c.args.config.now) 0 c.args.nodes.items ws c.in-Ok.ensures.count c.in-Ok.ensures.disks in
     omega (arith, many, length-map items as_lent, same, c.requires.places)
 
-pub returns-in-Ok-clause-grown : goal.returns-in-Ok-clause-grown
-returns-in-Ok-clause-grown g c tells node_tells gg d s asked held down out disk bytes now =
-    let n = g.N.SiteNode in
-    let laws = g.met.N.SystemNode g.world.𝓛 g.world.𝓜 g.world.𝓡 ((λ s x. x), (λ x. x), (λ x. x), λ x. x) in
-    let image = g.S.Disk.Disk.image in
-    let inside = g.S.Store.image c.args.store.now in
-    let disks_of = g.N.Parting.disks_of in
-    let ws = c.in-Ok.left.nodes.items in
-    let count : length c.args.nodes.items ≡ node_count gg = counted gg c.args.config.now asked _ c.requires.count in
-    let front = in_front c.args.parts.disks.items c.push_reserved.new.self.items c.args.topology (all_from (λ i w. disks_of c.args.config.now i w.0) 0 ws) c.requires.empty.0 c.push_reserved.ensures.items in
-    let whole = c.part_all-parts.ensures.disks ∙ front in
-    goes_on image g.N.SystemNode.places g.N.SiteNode.grown disks_of held gg c.args.config.now (c.node_numbers.ensures gg) c.args.nodes.items ws count c.in-Ok.ensures.count
-    (have_grown n.leads n.phase_of n.stands n.number n.at_rest_as n.spends g.N.SystemNode.places laws.walks n.grown gg d c.args.nodes.items ws (λ m is. omega (arith, (c.node_numbers.ensures gg).below m is, count)) down (c.in-Ok.ensures.grown node_tells))
-    (as_lent c.args.topology) (g.S.Store.image s) inside (g.S.Store.image c.settle.new.store) out
-    (λ name b here. subst (λ l. MayBeLeft image inside l name b) whole (c.settle.ensures.left tells name b here)) disk bytes now
-
-pub returns-in-Ok-clause-left : goal.returns-in-Ok-clause-left
-returns-in-Ok-clause-left g c tells node_tells gg d e asked held down same kept =
-    let image = g.S.Disk.Disk.image in
-    let inside = g.S.Store.image c.args.store.now in
-    let disks_of = g.N.Parting.disks_of in
-    let ws = c.in-Ok.left.nodes.items in
-    let count : length c.args.nodes.items ≡ node_count gg = counted gg c.args.config.now asked _ c.requires.count in
-    let front = in_front c.args.parts.disks.items c.push_reserved.new.self.items c.args.topology (all_from (λ i w. disks_of c.args.config.now i w.0) 0 ws) c.requires.empty.0 c.push_reserved.ensures.items in
-    let whole = c.part_all-parts.ensures.disks ∙ front in
-    has_run image g.N.SystemNode.places g.N.SiteNode.grown disks_of held gg c.args.config.now asked (c.node_numbers.ensures gg) e c.in-Ok.left.air.history ws c.in-Ok.left.rest
-    (run_left g (goal.at.returns-in-Ok-clause-left g c).After-settle node_tells gg e asked (down_too g.N.SystemNode.places gg d e c.args.nodes.items same down)) (c.in-Ok.ensures.count ∙ count) (as_lent c.args.topology) kept inside (g.S.Store.image c.settle.new.store)
-    (λ name b here. subst (λ l. MayBeLeft image inside l name b) whole (c.settle.ensures.left tells name b here))
-
-pub returns-in-Ok-clause-rest : goal.returns-in-Ok-clause-rest
-returns-in-Ok-clause-rest g c tells node_tells gg d e asked held met down same kept =
+pub returns-in-Ok-clause-over : goal.returns-in-Ok-clause-over
+returns-in-Ok-clause-over g c tells node_tells gg d asked held met down kept =
     let image = g.S.Disk.Disk.image in
     let inside = g.S.Store.image c.args.store.now in
     let after = g.S.Store.image c.settle.new.store in
@@ -89,23 +60,42 @@ returns-in-Ok-clause-rest g c tells node_tells gg d e asked held met down same k
     let ws = c.in-Ok.left.nodes.items in
     let h = c.in-Ok.left.air.history in
     let rose = Rose (g.S.Store.faults c.args.store.now) (g.S.Store.faults c.settle.new.store) in
+    let laws = g.met.N.SystemNode g.world.𝓛 g.world.𝓜 g.world.𝓡 ((λ s x. x), (λ x. x), (λ x. x), λ x. x) in
     let numbers = c.node_numbers.ensures gg in
     let topology = as_lent c.args.topology in
     let count : length c.args.nodes.items ≡ node_count gg = counted gg c.args.config.now asked _ c.requires.count in
-    let left = run_left g (goal.at.returns-in-Ok-clause-rest g c).After-settle node_tells gg e asked (down_too g.N.SystemNode.places gg d e c.args.nodes.items same down) in
+    let as_many = c.in-Ok.ensures.count ∙ count in
+    let from = λ (e : Disks) (down_e : AreDownOver g.N.SystemNode.places gg e c.args.nodes.items). run_left g (goal.at.returns-in-Ok-clause-over g c).After-settle node_tells gg e asked down_e in
+    let down_as = λ (e : Disks) (same : SameRecords gg d e). down_too g.N.SystemNode.places gg d e c.args.nodes.items same down in
     let front = in_front c.args.parts.disks.items c.push_reserved.new.self.items c.args.topology (all_from (λ i w. disks_of c.args.config.now i w.0) 0 ws) c.requires.empty.0 c.push_reserved.ensures.items in
     let whole = c.part_all-parts.ensures.disks ∙ front in
-    ok_three _ _ _ _ c.settle.result c.settle.ensures.notes c.settle.ensures.pairs c.settle.ensures.whole
-    (λ outcome notes pairs none.
-    rests image g.N.SystemNode.places n.grown disks_of held gg c.args.config.now asked numbers e h ws c.in-Ok.left.rest left (c.in-Ok.ensures.count ∙ count) topology kept inside after
-    (λ name b here. subst (λ l. MayBeLeft image inside l name b) whole (c.settle.ensures.left tells name b here))
-    (at_rest c.args.config.now ws c.in-Ok.left.rest c.in-Ok.ensures.fault (sym c.part_all-parts.ensures.fault ∙ none)) c.once.ensures.records c.read.ensures.notes g.S.Disk.Disk.tells tells outcome.journals
-    (subst (λ l. AreKeptIn g.S.Disk.Disk.tells image KeepsNotes (lent_replicas l) outcome.journals.notes.items) whole notes) (subst (λ l. AreKeptIn g.S.Disk.Disk.tells image KeepsPairs (lent_outputs l) outcome.journals.pairs.items) whole pairs) rose
-    (no_stops image g.N.SystemNode.places n.grown disks_of held gg c.args.config.now asked numbers e h ws c.in-Ok.left.rest left (c.in-Ok.ensures.count ∙ count) topology kept inside after
-    (λ name b here. subst (λ l. MayBeLeft image inside l name b) whole (c.settle.ensures.left tells name b here))
-    g.S.Disk.Disk.faults g.F.Log.LogFile.faults n g.N.Parting.logs_of met c.none_stops.ensures
-    (λ i b below. c.in-Ok.ensures.met i b (subst (λ k. i < k) c.in-Ok.ensures.count below)) rose
-    (λ l among some. c.settle.ensures.disks l (subst (Mem l) (sym whole) among) some)))
+    let left = λ (name : DiskName) (b : List ℕ) (here : after name b). subst (λ l. MayBeLeft image inside l name b) whole (c.settle.ensures.left tells name b here) in
+    let told = sym c.part_all-parts.ensures.fault in
+    let ran : RunLog = record { air = c.in-Ok.left.air; seen = c.in-Ok.left.seen; opened = c.args.opened } in
+    record {
+      grown = λ s are_out disk bytes now. goes_on image g.N.SystemNode.places n.grown disks_of held gg c.args.config.now numbers c.args.nodes.items ws count c.in-Ok.ensures.count
+          (have_grown n.leads n.phase_of n.stands n.number n.at_rest_as n.spends g.N.SystemNode.places laws.walks n.grown gg d c.args.nodes.items ws (λ m is. omega (arith, numbers.below m is, count)) down (c.in-Ok.ensures.grown node_tells))
+          topology (g.S.Store.image s) inside after are_out left disk bytes now;
+      left = λ e same. has_run image g.N.SystemNode.places n.grown disks_of held gg c.args.config.now asked numbers e h ws c.in-Ok.left.rest (from e (down_as e same)) as_many topology kept inside after left;
+      rest = λ e same.
+          let run = from e (down_as e same) in
+          ok_three _ _ _ _ c.settle.result c.settle.ensures.notes c.settle.ensures.pairs c.settle.ensures.whole
+          (λ outcome notes pairs none.
+          rests image g.N.SystemNode.places n.grown disks_of held gg c.args.config.now asked numbers e h ws c.in-Ok.left.rest run as_many topology kept inside after left
+          (at_rest c.args.config.now ws c.in-Ok.left.rest c.in-Ok.ensures.fault (told ∙ none)) c.once.ensures.records c.read.ensures.notes g.S.Disk.Disk.tells tells outcome.journals
+          (subst (λ l. AreKeptIn g.S.Disk.Disk.tells image KeepsNotes (lent_replicas l) outcome.journals.notes.items) whole notes) (subst (λ l. AreKeptIn g.S.Disk.Disk.tells image KeepsPairs (lent_outputs l) outcome.journals.pairs.items) whole pairs) rose
+          (no_stops image g.N.SystemNode.places n.grown disks_of held gg c.args.config.now asked numbers e h ws c.in-Ok.left.rest run as_many topology kept inside after left g.S.Disk.Disk.faults g.F.Log.LogFile.faults n g.N.Parting.logs_of met c.none_stops.ensures (λ i b below. c.in-Ok.ensures.met i b (subst (λ k. i < k) c.in-Ok.ensures.count below)) rose (λ l among some. c.settle.ensures.disks l (subst (Mem l) (sym whole) among) some)));
+      named = IfErr-weaker c.settle.result _ _
+          (λ f said.
+          ⊎_elim
+          (λ is.
+          first_told image g.N.SystemNode.places n.grown disks_of held gg c.args.config.now asked numbers d h ws c.in-Ok.left.rest (from d down) as_many topology kept inside after left g.S.Disk.Disk.faults g.F.Log.LogFile.faults n g.N.Parting.logs_of met (λ i b below. c.in-Ok.ensures.met i b (subst (λ k. i < k) c.in-Ok.ensures.count below)) rose (λ l among some. c.settle.ensures.disks l (subst (Mem l) (sym whole) among) some) ran (λ i. h) c.in-Ok.ensures.caused f (told ∙ is))
+          (λ of.
+          read_back_of image g.N.SystemNode.places n.grown disks_of held gg c.args.config.now asked numbers d h ws c.in-Ok.left.rest (from d down) as_many topology kept inside after left
+          (at_rest c.args.config.now ws c.in-Ok.left.rest c.in-Ok.ensures.fault (told ∙ of.0)) ran (λ i. h) rose f g.S.Disk.Disk.tells tells (subst (λ l. IsOfDisks g.S.Disk.Disk.tells image l rose f) whole of.1))
+          said)
+          c.settle.ensures.told;
+    }
 
 pub returns-in-Ok-clause-cause : goal.returns-in-Ok-clause-cause
 returns-in-Ok-clause-cause g c met =
@@ -126,39 +116,6 @@ returns-in-Ok-clause-cause g c met =
     told)
     c.settle.ensures.told
 
-pub returns-in-Ok-clause-whole : goal.returns-in-Ok-clause-whole
-returns-in-Ok-clause-whole g c tells node_tells gg d asked held met down kept =
-    let image = g.S.Disk.Disk.image in
-    let inside = g.S.Store.image c.args.store.now in
-    let after = g.S.Store.image c.settle.new.store in
-    let n = g.N.SiteNode in
-    let disks_of = g.N.Parting.disks_of in
-    let ws = c.in-Ok.left.nodes.items in
-    let h = c.in-Ok.left.air.history in
-    let rose = Rose (g.S.Store.faults c.args.store.now) (g.S.Store.faults c.settle.new.store) in
-    let numbers = c.node_numbers.ensures gg in
-    let topology = as_lent c.args.topology in
-    let count : length c.args.nodes.items ≡ node_count gg = counted gg c.args.config.now asked _ c.requires.count in
-    let left = run_left g (goal.at.returns-in-Ok-clause-whole g c).After-settle node_tells gg d asked down in
-    let front = in_front c.args.parts.disks.items c.push_reserved.new.self.items c.args.topology (all_from (λ i w. disks_of c.args.config.now i w.0) 0 ws) c.requires.empty.0 c.push_reserved.ensures.items in
-    let whole = c.part_all-parts.ensures.disks ∙ front in
-    IfErr-weaker c.settle.result _ _
-    (λ f told.
-    ⊎_elim
-    (λ is.
-    first_told image g.N.SystemNode.places n.grown disks_of held gg c.args.config.now asked numbers d h ws c.in-Ok.left.rest left (c.in-Ok.ensures.count ∙ count) topology kept inside after
-    (λ name b here. subst (λ l. MayBeLeft image inside l name b) whole (c.settle.ensures.left tells name b here))
-    g.S.Disk.Disk.faults g.F.Log.LogFile.faults n g.N.Parting.logs_of met
-    (λ i b below. c.in-Ok.ensures.met i b (subst (λ k. i < k) c.in-Ok.ensures.count below)) rose
-    (λ l among some. c.settle.ensures.disks l (subst (Mem l) (sym whole) among) some) (record { air = c.in-Ok.left.air; seen = c.in-Ok.left.seen; opened = c.args.opened }) (λ i. c.in-Ok.left.air.history) c.in-Ok.ensures.caused f (sym c.part_all-parts.ensures.fault ∙ is))
-    (λ of.
-    read_back_of image g.N.SystemNode.places n.grown disks_of held gg c.args.config.now asked numbers d h ws c.in-Ok.left.rest left (c.in-Ok.ensures.count ∙ count) topology kept inside after
-    (λ name b here. subst (λ l. MayBeLeft image inside l name b) whole (c.settle.ensures.left tells name b here))
-    (at_rest c.args.config.now ws c.in-Ok.left.rest c.in-Ok.ensures.fault (sym c.part_all-parts.ensures.fault ∙ of.0)) (record { air = c.in-Ok.left.air; seen = c.in-Ok.left.seen; opened = c.args.opened }) (λ i. c.in-Ok.left.air.history) rose f g.S.Disk.Disk.tells tells
-    (subst (λ l. IsOfDisks g.S.Disk.Disk.tells image l rose f) whole of.1))
-    told)
-    c.settle.ensures.told
-
 pub returns-in-Ok-clause-stopped : goal.returns-in-Ok-clause-stopped
 returns-in-Ok-clause-stopped g c =
     let ws = c.in-Ok.left.nodes.items in
@@ -170,22 +127,30 @@ returns-in-Ok-clause-stopped g c =
     told)
     c.settle.ensures.told
 
-pub returns-in-Err-clause-idle : goal.returns-in-Err-clause-idle
-returns-in-Err-clause-idle g c tells none disk bytes now =
+-- where no run began all is given back
+given_back : (g : Over) (c : After-give_parts g) → IsTrue g.S.Disk.Disk.tells → (disk : DiskName) (bytes : List ℕ) → g.S.Store.image c.give_parts.new.store disk bytes
+    → MayBeLeft g.S.Disk.Disk.image (g.S.Store.image c.args.store.now) (as_lent c.args.topology ∷ all_from (g.N.Parting.disks_of c.args.config.now) 0 c.args.nodes.items) disk bytes
+given_back g c tells disk bytes now =
     let disks_of = g.N.Parting.disks_of in
     let items = c.push_reserved.new.self.items in
     let front = in_front c.args.parts.disks.items items c.args.topology (all_from (disks_of c.args.config.now) 0 c.args.nodes.items) c.requires.empty.0 c.push_reserved.ensures.items in
     let whole = c.apart-parts.ensures.disks ∙ ap (λ v. map as_lent items ++ all_from (disks_of c.args.config.now) 0 v.items) c.in-Err.ensures.back ∙ front in
     subst (λ l. MayBeLeft g.S.Disk.Disk.image (g.S.Store.image c.args.store.now) l disk bytes) whole (c.give_parts.ensures.left tells disk bytes now)
 
-pub returns-in-Err-clause-grown : goal.returns-in-Err-clause-grown
-returns-in-Err-clause-grown g c tells node_tells gg d s asked held down out disk bytes now =
-    let disks_of = g.N.Parting.disks_of in
-    let items = c.push_reserved.new.self.items in
-    let front = in_front c.args.parts.disks.items items c.args.topology (all_from (disks_of c.args.config.now) 0 c.args.nodes.items) c.requires.empty.0 c.push_reserved.ensures.items in
-    let whole = c.apart-parts.ensures.disks ∙ ap (λ v. map as_lent items ++ all_from (disks_of c.args.config.now) 0 v.items) c.in-Err.ensures.back ∙ front in
-    given_goes_on g.S.Disk.Disk.image (g.S.Store.image s) (g.S.Store.image c.args.store.now) (as_lent c.args.topology) (all_from (disks_of c.args.config.now) 0 c.args.nodes.items) out disk bytes
-    (subst (λ l. MayBeLeft g.S.Disk.Disk.image (g.S.Store.image c.args.store.now) l disk bytes) whole (c.give_parts.ensures.left tells disk bytes now))
+pub returns-in-Err-clause-idle : goal.returns-in-Err-clause-idle
+returns-in-Err-clause-idle g c tells none disk bytes now = given_back g (goal.at.returns-in-Err-clause-idle g c).After-give_parts tells disk bytes now
+
+pub returns-in-Err-clause-over : goal.returns-in-Err-clause-over
+returns-in-Err-clause-over g c tells node_tells gg d asked held met down kept =
+    let image = g.S.Disk.Disk.image in
+    let inside = g.S.Store.image c.args.store.now in
+    let others = all_from (g.N.Parting.disks_of c.args.config.now) 0 c.args.nodes.items in
+    record {
+      grown = λ s out disk bytes now. given_goes_on image (g.S.Store.image s) inside (as_lent c.args.topology) others out disk bytes (given_back g (goal.at.returns-in-Err-clause-over g c).After-give_parts tells disk bytes now);
+      left = λ e same. none_left _ _ c.requires.none;
+      rest = λ e same. tt;
+      named = tt;
+    }
 
 pub returns-in-Ok-clause-stops : goal.returns-in-Ok-clause-stops
 returns-in-Ok-clause-stops g c planned node_planned gg d s asked held down laws named all =

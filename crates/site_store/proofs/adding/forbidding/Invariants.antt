@@ -1,5 +1,4 @@
-use Rattle.std.proofs.Common.{◌≡◌, drop, None}
-use Rattle.std.specs.List.{fold}
+use Rattle.std.proofs.Common.{◌≡◌, drop, None, fold}
 use Rattle.verify_pass.specs.TooSoon.{taken}
 use Rattle.site_store.proofs.Words.{kept_all}
 use Rattle.site_store.specs.Adding.{accepted}

@@ -1,7 +1,5 @@
 use Rattle.std.proofs.Common.{ℕ, ◌<◌, slice_index_or}
-use Rattle.bus_seat.specs.Seats.{TakesPart}
-use Rattle.site_workers.specs.Works.{WorkerView}
-use Rattle.site_workers.specs.Rounds.{Rests}
+use Rattle.site_workers.proofs.Words.{Rests, TakesPart, WorkerView}
 use Rattle.site_workers.proofs.rounds.all_rest.Given as goal
 
 abbrev pub invariant-loop-worker : goal.invariant-loop-worker

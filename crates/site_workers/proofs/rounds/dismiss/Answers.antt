@@ -1,11 +1,5 @@
 use Rattle.std.proofs.Common.{◌≡◌, List, [], ◌∷◌, ◌++◌, length, Option, sym, ap, ◌∙◌, subst, arith, append_assoc, length-append}
-use Rattle.std.specs.Prelude.{All}
-use mathlib.Core.List.{map-append}
-use Rattle.std.proofs.lemmas.List.{append-nil}
-use Rattle.std.proofs.lemmas.List.Elements.{All-push}
-use Rattle.bus_seat.specs.Seats.{Sight}
-use Rattle.site_node.specs.declared.kind.NodeFault.{NodeFault}
-use Rattle.site_workers.specs.Works.{WorkerView, HasMet}
+use Rattle.site_workers.proofs.Words.{All, All-push, HasMet, NodeFault, Sight, WorkerView, append-nil, map-append}
 use Rattle.site_workers.proofs.rounds.dismiss.Goals as goal
 
 pub loop-worker-preserved : goal.loop-worker-preserved

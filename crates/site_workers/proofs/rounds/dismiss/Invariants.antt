@@ -1,7 +1,5 @@
 use Rattle.std.proofs.Common.{◌≡◌, ◌+◌, ◌<◌, ◌≤◌, ◌++◌, map, length, vec_len}
-use Rattle.std.specs.Prelude.{All, vec_capacity}
-use Rattle.site_workers.specs.Works.{WorkerView, HasMet}
-use Rattle.site_workers.specs.Rounds.{AreCaused}
+use Rattle.site_workers.proofs.Words.{All, AreCaused, HasMet, WorkerView, vec_capacity}
 use Rattle.site_workers.proofs.rounds.dismiss.Given as goal
 
 abbrev pub invariant-loop-worker : goal.invariant-loop-worker

@@ -1,8 +1,5 @@
 use Rattle.std.proofs.Common.{Option, sym, subst}
-use Rattle.std.proofs.lemmas.List.Elements.{All-push}
-use Rattle.site_node.specs.declared.kind.NodeFault.{NodeFault}
-use Rattle.site_workers.specs.Works.{IsCaused}
-use Rattle.site_workers.specs.Rounds.{AreCaused}
+use Rattle.site_workers.proofs.Words.{All-push, AreCaused, IsCaused, NodeFault}
 use Rattle.site_workers.proofs.rounds.dismiss_one.Goals as goal
 
 pub returns-clause-caused : goal.returns-clause-caused

@@ -1,5 +1,5 @@
 use Rattle.std.proofs.Common.{◌≡◌, ℕ, ◌<◌, slice_index_or, None}
-use Rattle.site_workers.specs.Works.{WorkerView}
+use Rattle.site_workers.proofs.Words.{WorkerView}
 use Rattle.site_workers.proofs.rounds.has_fault.Given as goal
 
 abbrev pub invariant-loop-worker : goal.invariant-loop-worker

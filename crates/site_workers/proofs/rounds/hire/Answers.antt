@@ -1,10 +1,5 @@
 use Rattle.std.proofs.Common.{◌≡◌, ℕ, ◌<◌, List, [], ◌∷◌, ◌++◌, length, map, get_or, Some, None, sym, ap, ◌∙◌, subst, arith, append_assoc, length-append}
-use Rattle.std.specs.Prelude.{All}
-use mathlib.Core.List.{map-append}
-use Rattle.std.proofs.lemmas.List.{length-map}
-use Rattle.std.proofs.lemmas.List.Elements.{All-nil, All-cons, All-append}
-use Rattle.bus_seat.specs.Seats.{Sight, fresh}
-use Rattle.site_workers.specs.Works.{WorkerView}
+use Rattle.site_workers.proofs.Words.{All, All-append, All-cons, All-nil, Sight, WorkerView, fresh, length-map, map-append}
 use Rattle.site_workers.proofs.Going.{at_front}
 use Rattle.site_workers.proofs.rounds.hire.Goals as goal
 

@@ -1,6 +1,5 @@
 use Rattle.std.proofs.Common.{◌≡◌, ◌+◌, ◌≤◌, ◌++◌, map, length, None}
-use Rattle.std.specs.Prelude.{All, vec_capacity}
-use Rattle.site_workers.specs.Works.{WorkerView}
+use Rattle.site_workers.proofs.Words.{All, WorkerView, vec_capacity}
 use Rattle.site_workers.proofs.rounds.hire.Given as goal
 
 abbrev pub invariant-loop-node : goal.invariant-loop-node

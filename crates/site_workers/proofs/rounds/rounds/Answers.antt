@@ -1,10 +1,9 @@
 use Rattle.std.proofs.Common.{rules, ◌∙◌, slice_index_or, subst}
+use Rattle.site_workers.proofs.Words.{AllWentOn, WentOn, WorkerView}
 use denote.Exit.{no as leaves_none}
 use denote.Param.{param}
 use denote.Param.Send.{param_send, arg_send}
 use Rattle.site_workers.proofs.Crossing.{worker_send}
-use Rattle.site_workers.specs.Works.{WorkerView}
-use Rattle.site_workers.specs.Rounds.{WentOn, AllWentOn}
 use Rattle.site_workers.proofs.Going.{all_on}
 use Rattle.site_workers.proofs.rounds.rounds.Given.{Over}
 use Rattle.site_workers.proofs.rounds.rounds.Goals as goal

@@ -1,5 +1,5 @@
 use Rattle.std.proofs.Common.{◌≡◌}
-use Rattle.site_workers.specs.Rounds.{AllWentOn}
+use Rattle.site_workers.proofs.Words.{AllWentOn}
 use Rattle.site_workers.proofs.rounds.rounds.Given as goal
 
 abbrev pub invariant-loop : goal.invariant-loop

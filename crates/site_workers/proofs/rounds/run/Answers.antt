@@ -1,12 +1,8 @@
 use Rattle.std.proofs.Common.{◌≡◌, ℕ, ◌<◌, ◌++◌, ◌∷◌, [], List, length, map, take, drop, get_or, sym, ap, ◌∙◌, subst, arith}
-use Rattle.std.specs.Prelude.{All}
-use Rattle.air_bus.specs.History.{Flight, IsAired}
+use Rattle.site_workers.proofs.Words.{All, AllWentOn, AreSeatsOf, Flight, HasMet, IsAired, IsIn, Sight, WorkerView}
 use Rattle.air_bus.specs.Waiting.{is_dead}
 use Rattle.bus_seat.specs.Views.{count, flown}
-use Rattle.bus_seat.specs.Seats.{Sight, IsIn, AreSeatsOf}
 use Rattle.site_workers.specs.Heard.{IsHeard}
-use Rattle.site_workers.specs.Works.{WorkerView, HasMet}
-use Rattle.site_workers.specs.Rounds.{AllWentOn}
 use Rattle.site_workers.proofs.Going.{Ran, front_of, front_count, front_at, hired_buses, all_seats, all_taken, seats_numbered, ran}
 use Rattle.site_workers.proofs.rounds.run.Given.{Over}
 use Rattle.site_workers.proofs.rounds.run.Goals as goal

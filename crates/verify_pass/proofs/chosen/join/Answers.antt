@@ -1,5 +1,4 @@
-use Rattle.std.proofs.Common.{ap, ◌∙◌, arith}
-use Rattle.std.specs.Prelude.{unwrap_or}
+use Rattle.std.proofs.Common.{ap, ◌∙◌, arith, unwrap_or}
 use Rattle.verify_pass.proofs.Words.{get, common_steps, is_place}
 use Rattle.verify_pass.proofs.Groups.{found, joined}
 use Rattle.verify_pass.proofs.chosen.join.Goals as goal

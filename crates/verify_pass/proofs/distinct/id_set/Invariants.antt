@@ -1,5 +1,4 @@
-use Rattle.std.proofs.Common.{◌≡◌, ◌-◌, length}
-use Rattle.std.specs.Prelude.{drop}
+use Rattle.std.proofs.Common.{◌≡◌, ◌-◌, length, drop}
 use Rattle.verify_pass.proofs.Words.{IsStrictlySortedBy, id_cmp, in_order}
 use Rattle.verify_pass.proofs.distinct.id_set.Given as goal
 

@@ -1,5 +1,4 @@
-use Rattle.std.proofs.Common.{◌≡◌, ◌-◌, Bool, cond, List, ◌∷◌, map, length, drop, ap, sym, ◌∙◌, arith}
-use Rattle.std.specs.Prelude.{Option, option_map, filter}
+use Rattle.std.proofs.Common.{◌≡◌, ◌-◌, Bool, cond, List, ◌∷◌, map, length, drop, ap, sym, ◌∙◌, arith, Option, option_map, filter}
 use Rattle.verify_pass.proofs.Words.{Ballot, Batch, same_batch, Acceptance, is_most, value_of}
 use Rattle.paxos_defs.specs.Decided as paxos
 use Rattle.verify_pass.proofs.Groups.{least_next}

@@ -1,5 +1,4 @@
-use Rattle.std.proofs.Common.{◌≡◌, ◌-◌, map, length}
-use Rattle.std.specs.Prelude.{drop, filter, option_map}
+use Rattle.std.proofs.Common.{◌≡◌, ◌-◌, map, length, drop, filter, option_map}
 use Rattle.verify_pass.proofs.Words.{same_batch, is_most, value_of}
 use Rattle.paxos_defs.specs.Decided as paxos
 use Rattle.verify_pass.proofs.group.pick.Given as goal

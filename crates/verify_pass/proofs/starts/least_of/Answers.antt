@@ -1,5 +1,4 @@
-use Rattle.std.proofs.Common.{[], ◌∷◌, take, get_or, ap, sym, ◌∙◌, arith}
-use Rattle.std.specs.Prelude.{Option}
+use Rattle.std.proofs.Common.{[], ◌∷◌, take, get_or, ap, sym, ◌∙◌, arith, Option}
 use Rattle.verify_pass.proofs.Words.{take_more, fold-append, EventId, Insert, least_from, least_with}
 use Rattle.verify_pass.proofs.starts.least_of.Goals as goal
 

@@ -1,5 +1,4 @@
-use Rattle.std.proofs.Common.{◌||◌, List, take, get_or, ap, sym, ◌∙◌, arith}
-use Rattle.std.specs.Prelude.{is_some}
+use Rattle.std.proofs.Common.{◌||◌, List, take, get_or, ap, sym, ◌∙◌, arith, is_some}
 use Rattle.verify_pass.proofs.Words.{contains, take_more, id_cmp, Insert, first_in}
 use Rattle.verify_pass.proofs.Ids.{add_push}
 use Rattle.verify_pass.proofs.states.add_all.Goals as goal

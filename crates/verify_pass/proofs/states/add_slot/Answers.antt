@@ -1,5 +1,4 @@
-use Rattle.std.proofs.Common.{List, ◌||◌, ap, sym, ◌∙◌}
-use Rattle.std.specs.Prelude.{option_map, is_some}
+use Rattle.std.proofs.Common.{List, ◌||◌, ap, sym, ◌∙◌, option_map, is_some}
 use Rattle.verify_pass.proofs.Words.{contains, id_cmp, Insert, first_in, Bor, Batch, slots}
 use Rattle.verify_pass.proofs.Fronts.{either_way, has_next, has_whole}
 use Rattle.verify_pass.proofs.states.add_slot.Goals as goal

@@ -1,5 +1,4 @@
-use Rattle.std.proofs.Common.{◌≡◌, List, sym, subst}
-use Rattle.std.specs.Prelude.{Contains}
+use Rattle.std.proofs.Common.{◌≡◌, List, sym, subst, Contains}
 use Rattle.verify_pass.proofs.Words.{btree_set_contains_iff, EventId}
 use Rattle.event_id.proofs.Order.{ids_total, exact_ids}
 use Rattle.verify_pass.proofs.states.inserted.Goals as goal

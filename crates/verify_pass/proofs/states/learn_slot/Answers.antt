@@ -1,5 +1,4 @@
-use Rattle.std.proofs.Common.{ap, sym, ◌∙◌}
-use Rattle.std.specs.Prelude.{option_map}
+use Rattle.std.proofs.Common.{ap, sym, ◌∙◌, option_map}
 use Rattle.verify_pass.proofs.Words.{Bor, Batch, slots}
 use Rattle.verify_pass.proofs.Fronts.{at_next, whole}
 use Rattle.verify_pass.proofs.states.learn_slot.Goals as goal

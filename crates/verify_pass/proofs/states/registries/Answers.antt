@@ -1,5 +1,4 @@
-use Rattle.std.proofs.Common.{◌≡◌, ℕ, ◌+◌, List, [], ◌∷◌, length, length-append, Some, ⊎_elim, ap, sym, ◌∙◌, subst}
-use Rattle.std.specs.Prelude.{slice_get}
+use Rattle.std.proofs.Common.{◌≡◌, ℕ, ◌+◌, List, [], ◌∷◌, length, length-append, Some, ⊎_elim, ap, sym, ◌∙◌, subst, slice_get}
 use Rattle.verify_pass.proofs.Words.{TimedRegistry, at_push, slots, IsWhole}
 use Rattle.verify_pass.proofs.states.registries.Goals as goal
 

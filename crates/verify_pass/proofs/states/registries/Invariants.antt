@@ -1,5 +1,4 @@
-use Rattle.std.proofs.Common.{◌≡◌, ℕ, length, Some}
-use Rattle.std.specs.Prelude.{slice_get}
+use Rattle.std.proofs.Common.{◌≡◌, ℕ, length, Some, slice_get}
 use Rattle.verify_pass.proofs.Words.{TimedRegistry, slots, EndsBy, IsWhole}
 use Rattle.verify_pass.proofs.states.registries.Given as goal
 

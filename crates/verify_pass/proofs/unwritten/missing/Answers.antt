@@ -1,5 +1,4 @@
-use Rattle.std.proofs.Common.{◌≡◌, ◌<◌, ℕ, not, [], List, map, is_some, ap, sym, ◌∙◌, subst}
-use Rattle.std.specs.Prelude.{filter}
+use Rattle.std.proofs.Common.{◌≡◌, ◌<◌, ℕ, not, [], List, map, is_some, ap, sym, ◌∙◌, subst, filter}
 use Rattle.verify_pass.proofs.Words.{IsStrictlySortedBy, IsStrictlySortedBy-filter, and_parts, EventId, id_cmp, Place, same_batch, note_view, ReplicaNote, Batch, TimedRegistry, KnowAll, flat_map, holder, shard_of, batch_at, all_pairs, decided_for, first_pair, is_missing, missing_id, unboxed, unwritten_line}
 use Rattle.paxos_defs.specs.Decided as paxos
 use Rattle.verify_pass.proofs.Joining.{missing_ids}

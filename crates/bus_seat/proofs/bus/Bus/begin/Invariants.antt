@@ -1,5 +1,5 @@
 use Rattle.std.proofs.Common.{◌≡◌}
-use Rattle.bus_seat.specs.Seats.{Looks}
+use Rattle.bus_seat.proofs.Words.{Looks}
 use Rattle.bus_seat.proofs.bus.Bus.begin.Given as goal
 
 abbrev pub invariant-loop : goal.invariant-loop

@@ -1,6 +1,5 @@
 use Rattle.std.proofs.Common.{◌≡◌, ◌++◌, All, sym, ap, ◌∙◌, subst, option_to_list}
-use Rattle.std.proofs.lemmas.List.Elements.{All-weaker}
-use Rattle.bus_seat.specs.Seats.{BusId, Sight, AreSeatsOf, IsIn}
+use Rattle.bus_seat.proofs.Words.{All-weaker, AreSeatsOf, BusId, IsIn, Sight}
 use Rattle.bus_seat.proofs.Closing.{seats_split, seats_of, closed_seats}
 use Rattle.bus_seat.proofs.bus.Bus.end_with.Goals as goal
 

@@ -1,10 +1,6 @@
 use Rattle.std.proofs.Common.{◌≡◌, ◌≢◌, ◌<◌, false, Some, None, MatchOption, IfSome, IfOk, sym, ap, ◌∙◌, subst, arith}
-use Rattle.air_bus.specs.declared.entry.Phase.TheVariants.{Busy}
-use Rattle.air_bus.specs.History.{Flight, phase}
+use Rattle.bus_seat.proofs.Words.{Begins, Busy, Flight, Sat, Sight, TakesPart, View, caught_up, count, in_hand, off, phase, sight}
 use Rattle.air_bus.specs.Waiting.{is_dead}
-use Rattle.bus_seat.specs.declared.view.View.{View}
-use Rattle.bus_seat.specs.Views.{count, Sat, caught_up, off, in_hand}
-use Rattle.bus_seat.specs.Seats.{Sight, sight, TakesPart, Begins}
 use Rattle.bus_seat.proofs.Moves.{took_phase}
 use Rattle.bus_seat.proofs.Beginning.{begun}
 use Rattle.bus_seat.proofs.bus.Bus.look.Goals as goal

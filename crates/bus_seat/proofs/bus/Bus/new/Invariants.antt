@@ -1,6 +1,5 @@
 use Rattle.std.proofs.Common.{◌≡◌, ◌<◌, [], vec_capacity, vec_len}
-use Rattle.bus_seat.specs.Views.{count, runner_at}
-use Rattle.bus_seat.specs.Seats.{fresh_to}
+use Rattle.bus_seat.proofs.Words.{count, fresh_to, runner_at}
 use Rattle.bus_seat.proofs.bus.Bus.new.Given as goal
 
 abbrev pub invariant-loop-node : goal.invariant-loop-node

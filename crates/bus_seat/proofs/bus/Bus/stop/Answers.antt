@@ -1,8 +1,5 @@
 use Rattle.std.proofs.Common.{◌≡◌, ◌<◌, Some, None, MatchOption, sym, ap, ◌∙◌, subst, arith}
-use Rattle.air_bus.specs.declared.entry.Phase.TheVariants.{Busy}
-use Rattle.air_bus.specs.History.{phase}
-use Rattle.bus_seat.specs.Views.{count}
-use Rattle.bus_seat.specs.Seats.{Sight}
+use Rattle.bus_seat.proofs.Words.{Busy, Sight, count, phase}
 use Rattle.bus_seat.proofs.Moves.{took_phase}
 use Rattle.bus_seat.proofs.bus.Bus.stop.Goals as goal
 

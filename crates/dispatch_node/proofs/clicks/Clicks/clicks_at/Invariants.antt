@@ -1,5 +1,4 @@
-use Rattle.std.proofs.Common.{◌≡◌, ℕ, true, take}
-use Rattle.std.specs.Prelude.{All, IsTrue}
+use Rattle.std.proofs.Common.{◌≡◌, ℕ, true, take, All, IsTrue}
 use Rattle.dispatch_node.proofs.Words.{has, IsClick, Setting, AreClicksAt, IsLogOf, StartsAt}
 use Rattle.dispatch_node.proofs.clicks.Clicks.clicks_at.Given as goal
 

@@ -1,11 +1,7 @@
 use Rattle.std.proofs.Common.{◌∙◌, sym}
 use Rattle.event_store.proofs.Words.{IfSome_then}
-use Rattle.event_store.proofs.Segments.{segment_some, segment_none}
+use Rattle.event_store.proofs.Segments.{segment_some}
 use Rattle.event_store.proofs.index.Index.segment.Goals as goal
-
-pub returns-in_err-start-clause-none : goal.returns-in_err-start-clause-none
-returns-in_err-start-clause-none c = λ marks keeps.
-    rw c.from_residual.ensures (segment_none marks c.args.id (λ k one le. sym (keeps.entries k) ∙ c.in_err-start.ensures.none k one le))
 
 pub returns-clause-some : goal.returns-clause-some
 returns-clause-some c = λ marks place keeps falls.

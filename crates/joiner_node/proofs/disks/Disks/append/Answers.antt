@@ -1,9 +1,6 @@
 use Rattle.std.proofs.Common.{◌≡◌, Option, Some, refl, sym, ap, subst}
+use Rattle.joiner_node.proofs.Words.{JoinerNote, PairsOr, first_meets, recorded_as, second_meets, with_note}
 use Rattle.outside.specs.Disk.{Throughout}
-use Rattle.joiner_core.specs.declared.turn.JoinerNote.{JoinerNote}
-use Rattle.site_node.proofs.Stops.{first_meets, second_meets}
-use Rattle.joiner_node.specs.Disks.{PairsOr, with_note}
-use Rattle.joiner_node.specs.Records.{recorded_as}
 use Rattle.joiner_node.specs.declared.records.Record.TheVariants as written
 use Rattle.joiner_node.proofs.Writing.{note_is, kept_of, pair_holds}
 use Rattle.joiner_node.proofs.disks.Disks.append.Goals as goal

@@ -1,11 +1,7 @@
 use Rattle.std.proofs.Common.{◌≡◌, List, ℕ, Some, refl, false, ap, sym, subst, rules}
-use Rattle.std.specs.Prelude.{Option}
+use Rattle.joiner_node.proofs.Words.{AreInDoubt, Doubt, IsFound, Option, first_meets, one_by_one, was_shut_out, with_note}
 use Rattle.gate_journal.specs.declared.journal.JournalState.TheVariants.{Ready}
-use Rattle.joiner_node.specs.Disks.{AreInDoubt, IsFound, with_note}
-use Rattle.joiner_node.specs.declared.disks.Doubt.{Doubt}
 use Rattle.joiner_node.proofs.Reopening.{epoch_left, pairs_left, found}
-use Rattle.site_node.specs.Faults.{was_shut_out}
-use Rattle.site_node.proofs.Stops.{first_meets, one_by_one}
 use Rattle.joiner_node.proofs.disks.Disks.reopen.Goals as goal
 
 pub returns-clause-found : goal.returns-clause-found

@@ -1,6 +1,6 @@
 use Rattle.std.proofs.Common.{Bool, List, ℕ, sym, ap, subst, arith, length}
+use Rattle.joiner_node.proofs.Words.{Keeps}
 use Rattle.outside.specs.Plans.{MeetsPlan}
-use Rattle.output_log.specs.Pairs.{Keeps}
 use Rattle.joiner_node.proofs.Reopening.{pairs_undamaged}
 use Rattle.joiner_node.proofs.disks.Disks.reopen_log.Goals as goal
 

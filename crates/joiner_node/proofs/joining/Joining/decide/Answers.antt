@@ -1,6 +1,5 @@
 use Rattle.std.proofs.Common.{sym, subst}
-use Rattle.joiner_core.specs.Standing.{IsReady}
-use Rattle.joiner_core.specs.declared.node_core.JoinerCore.{JoinerCore}
+use Rattle.joiner_node.proofs.Words.{IsReady, JoinerCore}
 use Rattle.joiner_node.proofs.Deciding.{decided}
 use Rattle.joiner_node.proofs.joining.Joining.decide.Goals as goal
 

@@ -1,6 +1,6 @@
 use Rattle.std.proofs.Common.{ap}
+use Rattle.joiner_node.proofs.Words.{Deliver}
 use Rattle.turn_defs.specs.declared.packet.Packet.{Packet}
-use Rattle.turn_defs.specs.declared.node.Input.TheVariants.{Deliver}
 use Rattle.joiner_node.proofs.joining.Joining.delivered.Goals as goal
 
 pub returns-in_ok-looked-in-Join-clause-carries : goal.returns-in_ok-looked-in-Join-clause-carries

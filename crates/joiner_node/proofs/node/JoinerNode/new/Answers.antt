@@ -1,5 +1,5 @@
 use Rattle.std.proofs.Common.{refl, ap, arith}
-use Rattle.joiner_node.specs.Node.{down_over}
+use Rattle.joiner_node.proofs.Words.{down_over}
 use Rattle.joiner_node.proofs.Reopening.{holds_read}
 use Rattle.joiner_node.proofs.Turning.{stands_none, knows_down}
 use Rattle.joiner_node.proofs.node.JoinerNode.new.Goals as goal

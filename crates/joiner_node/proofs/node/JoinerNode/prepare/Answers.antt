@@ -1,6 +1,5 @@
 use Rattle.std.proofs.Common.{Option, sym, ◌∙◌, ap, subst}
-use Rattle.joiner_core.specs.declared.turn.JoinerNote.{JoinerNote}
-use Rattle.joiner_node.specs.Records.{recorded_as, IsAbove}
+use Rattle.joiner_node.proofs.Words.{IsAbove, JoinerNote, recorded_as}
 use Rattle.joiner_node.proofs.Turning.{row_is, above_of}
 use Rattle.joiner_node.proofs.node.JoinerNode.prepare.Goals as goal
 

@@ -1,10 +1,6 @@
 use Rattle.std.proofs.Common.{◌≡◌, Bool, Some, subst, rules}
-use Rattle.site_node.specs.Faults.{was_shut_out, IsWhole, MeetsBoth}
-use Rattle.joiner_node.specs.Node.{Parts}
-use Rattle.joiner_node.specs.Disks.{with_note}
-use Rattle.joiner_node.specs.States.{keeps_open}
+use Rattle.joiner_node.proofs.Words.{IsWhole, MeetsBoth, Parts, keeps_open, on_err, was_shut_out, with_note}
 use Rattle.joiner_node.proofs.Turning.{both_tell, restarts, waits_still, between, if_err}
-use Rattle.site_node.proofs.Turns.{on_err}
 use Rattle.joiner_node.proofs.node.JoinerNodeSiteNode.restart.Goals as goal
 
 pub returns-clause-stopped : goal.returns-clause-stopped

@@ -1,15 +1,10 @@
 use Rattle.std.proofs.Common.{◌≡◌, Err, sym, ap, ◌∙◌, subst, refl, false, rules, ⊎_elim, inl}
 use Rattle.site_node.specs.declared.kind.NodeFault.TheVariants as fault
-use Rattle.joiner_node.specs.Node.{Parts, JoinerState, KeepsOf}
-use Rattle.joiner_node.specs.Disks.{with_note}
-use Rattle.joiner_node.specs.States.{keeps_open}
 use Rattle.std.proofs.lemmas.Result.{err_from_is_err_and}
+use Rattle.joiner_node.proofs.Words.{JoinerState, KeepsOf, Parts, both_meet, fits_of, keeps_open, none_of, one_by_one, turn_grown, was_stopped, with_note}
 use Rattle.joiner_node.proofs.Spending.{spends, starts, spent_junk}
 use Rattle.joiner_node.proofs.Turning.{quiet, idles, ends, stays_open, all_five, both_err, both_tell, serves_of, serves_same, holds_within, next_of, led_to}
 use Rattle.gate_journal.proofs.Growth.{continues_same}
-use Rattle.site_node.proofs.Stops.{one_by_one, both_meet}
-use Rattle.site_node.proofs.Turns.{fits_of, none_of, turn_grown}
-use Rattle.site_node.specs.Faults.{was_stopped}
 use Rattle.joiner_node.proofs.node.JoinerNodeSiteNode.turn.Goals as goal
 
 pub returns-in-None-clause-done : goal.returns-in-None-clause-done

@@ -1,6 +1,6 @@
 use Rattle.std.proofs.Common.{◌≡◌, List, IsTrue}
+use Rattle.joiner_node.proofs.Words.{HasRead}
 use Rattle.log_records.specs.declared.records.QueryRec.{QueryRec as Query}
-use Rattle.joiner_node.specs.Read.{HasRead}
 use Rattle.joiner_node.proofs.queries.Queries.look_up.Given as goal
 
 -- whatever queries the log holds, some of them were read

@@ -1,5 +1,5 @@
 use Rattle.std.proofs.Common.{◌≡◌, ◌+◌, ◌*◌, ◌++◌, take}
-use Rattle.turn_defs.specs.Spellings.{inserts}
+use Rattle.packet_codec.proofs.Words.{inserts}
 use Rattle.packet_codec.proofs.fields.batches.write_inserts.Given as goal
 
 abbrev pub invariant-loop-x : goal.invariant-loop-x

@@ -1,5 +1,4 @@
-use Rattle.std.proofs.Common.{◌++◌, ℕ, List, Option, Err, inl, inr, ⊎_elim, refl, ap, subst, ◌∙◌}
-use Rattle.std.specs.Prelude.{IfSome}
+use Rattle.std.proofs.Common.{◌++◌, ℕ, List, Option, Err, inl, inr, ⊎_elim, refl, ap, subst, ◌∙◌, IfSome}
 use Rattle.photon_cli.proofs.Words.{PlanView, bytes_under, ReportLine, totals, TookPrefix, bulk_values, IsHeardOf, IsOfDrill, IsPast}
 use Rattle.photon_cli.proofs.Bulking.{bulk_early, bulk_run, bulk_totals, made_valid, no_read, without}
 use Rattle.photon_cli.proofs.Drilling.{more_stops, no_stops}

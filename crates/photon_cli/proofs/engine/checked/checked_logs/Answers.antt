@@ -1,38 +1,32 @@
 use Rattle.std.proofs.Common.{◌≡◌, ℕ, List, Option, Err, ap, subst}
-use Rattle.photon_cli.proofs.Words.{IsSomeAnd, err_from_is_err_and, QueryRec, IsQueryLog, RefusesClick, BadLine, LogName, Queries, Clicks, HasIds, Refuses}
+use Rattle.photon_cli.proofs.Words.{IsSomeAnd, err_from_is_err_and, QueryRec, IsQueryLog, RefusesClick, Queries, Clicks, Refuses}
 use Rattle.run_fault.specs.declared.fault.RunFault.TheVariants as fault
-use Rattle.photon_cli.proofs.Refusals.{same_log}
-use Rattle.photon_cli.proofs.Runs.{both_logs}
+use Rattle.photon_cli.proofs.CheckedLogs.{clicks_read, queries_read}
+use Rattle.photon_cli.proofs.Refusals.{of_its_log, within}
 use Rattle.photon_cli.proofs.engine.checked.checked_logs.Goals as goal
 
 pub returns-clause-valid : goal.returns-clause-valid
 returns-clause-valid g c logs =
-    let named : List ℕ → Option (List ℕ) = g.F.Source.bytes c.args.files.now in
-    let ids = c.in_ok-checked.checked.ids.items in
-    both_logs named c.args.queries.now c.args.clicks.now ids (c.in_ok-check_queries_in.ensures.found logs)
-    (subst (λ (o : Option (List ℕ)). IsSomeAnd o (λ b. HasIds b ids)) (c.in_ok-check_queries_in.ensures.same logs c.args.clicks.now) (c.in_ok-checked.ensures.found logs))
+    let q = queries_read (g.F.Source.bytes c.args.files.now c.args.queries.now) _ (c.in_ok-check_in.ensures.found logs) in
+    let k = clicks_read _ _ c.in_ok-checked.checked (c.in_ok-check_in.ensures.same logs c.args.clicks.now) (c.in_ok-checked.ensures.found logs) in
+    (q.0, k.0.0, record { query = q.1; click = k.0.1 }, k.1)
 
-pub returns-in_err-check_queries_in-clause-refused : goal.returns-in_err-check_queries_in-clause-refused
-returns-in_err-check_queries_in-clause-refused g c tells log line w e =
+pub returns-clause-end : goal.returns-clause-end
+returns-clause-end g c logs = (clicks_read _ _ c.in_ok-checked.checked (c.in_ok-check_in.ensures.same logs c.args.clicks.now) (c.in_ok-checked.ensures.found logs)).2
+
+pub returns-in_err-check_in-clause-refused : goal.returns-in_err-check_in-clause-refused
+returns-in_err-check_in-clause-refused g c tells log line w e =
     let p = err_from_is_err_and c.from_residual.result c.from_residual.ensures.1 in
-    let bad : BadLine = record { line = line; why = w } in
-    let f = c.in_err-check_queries_in.field-0.0 in
+    let f = c.in_err-check_in.field-0.0 in
     let own : f ≡ fault.Refused log line w = cc in
-    let here : Queries ≡ log = same_log Queries log f line w c.in_err-check_queries_in.ensures.fault own in
-    let told : f ≡ fault.Refused Queries line w = cc in
-    subst (λ (l : LogName). Refuses (g.F.Source.bytes c.args.files.now) c.args.queries.now c.args.clicks.now l bad) here
-    (c.in_err-check_queries_in.ensures.refused tells line w (ap Err told))
+    of_its_log (Refuses (g.F.Source.bytes c.args.files.now) c.args.queries.now c.args.clicks.now) Queries log f line w c.in_err-check_in.ensures.fault (λ is. c.in_err-check_in.ensures.refused tells line w (ap Err is)) own
 
 pub returns-in_err-checked-clause-refused : goal.returns-in_err-checked-clause-refused
 returns-in_err-checked-clause-refused g c tells log line w e =
     let p = err_from_is_err_and c.from_residual-in_err-checked.result c.from_residual-in_err-checked.ensures.1 in
-    let bad : BadLine = record { line = line; why = w } in
     let f = c.in_err-checked.field-0.0 in
     let own : f ≡ fault.Refused log line w = cc in
-    let here : Clicks ≡ log = same_log Clicks log f line w c.in_err-checked.ensures.fault own in
-    let told : f ≡ fault.Refused Clicks line w = cc in
-    let named : List ℕ → Option (List ℕ) = g.F.Source.bytes c.args.files.now in
-    let valid : IsSomeAnd (named c.args.queries.now) (λ b. (qs : List QueryRec) × IsQueryLog b qs) = c.in_ok-check_queries_in.ensures.found tells in
-    let there : IsSomeAnd (named c.args.clicks.now) (λ b. RefusesClick b bad) =
-    subst (λ (o : Option (List ℕ)). IsSomeAnd o (λ b. RefusesClick b bad)) (c.in_ok-check_queries_in.ensures.same tells c.args.clicks.now) (c.in_err-checked.ensures.refused tells line w (ap Err told)) in
-    subst (λ (l : LogName). Refuses named c.args.queries.now c.args.clicks.now l bad) here (valid, there)
+    let q = queries_read (g.F.Source.bytes c.args.files.now c.args.queries.now) _ (c.in_ok-check_in.ensures.found tells) in
+    let valid : IsSomeAnd (g.F.Source.bytes c.args.files.now c.args.queries.now) (λ (b : List ℕ). (qs : List QueryRec) × IsQueryLog b qs) = within _ (λ (b : List ℕ). IsQueryLog b q.0) (λ (b : List ℕ). (qs : List QueryRec) × IsQueryLog b qs) (λ b h. (q.0, h)) q.1 in
+    let there = λ (is : f ≡ fault.Refused Clicks line w). subst (λ (o : Option (List ℕ)). IsSomeAnd o (λ b. RefusesClick b (record { line = line; why = w }))) (c.in_ok-check_in.ensures.same tells c.args.clicks.now) (c.in_err-checked.ensures.refused tells line w (ap Err is)) in
+    of_its_log (Refuses (g.F.Source.bytes c.args.files.now) c.args.queries.now c.args.clicks.now) Clicks log f line w c.in_err-checked.ensures.fault (λ is. (valid, there is)) own

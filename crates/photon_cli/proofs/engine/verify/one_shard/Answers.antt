@@ -1,5 +1,4 @@
-use Rattle.std.proofs.Common.{◌≡◌, [], ◌∷◌, Result, Ok, Err, refl, sym, ◌∙◌, subst, arith, lit<}
-use Rattle.std.specs.Prelude.{IfErr}
+use Rattle.std.proofs.Common.{◌≡◌, [], ◌∷◌, Result, Ok, Err, refl, sym, ◌∙◌, subst, arith, lit<, IfErr}
 use Rattle.std.specs.Fmt.{digits}
 use Rattle.photon_cli.proofs.Words.{IsTable}
 use Rattle.time_shards.specs.Text.{row_text}

@@ -1,5 +1,4 @@
-use Rattle.std.proofs.Common.{List, ℕ, ◌≡◌, ◌≤◌, length, IsTrue, sym, ap, subst, ◌∙◌}
-use Rattle.std.specs.Prelude.{◌↔◌, IsErr}
+use Rattle.std.proofs.Common.{List, ℕ, ◌≡◌, ◌≤◌, length, IsTrue, sym, ap, subst, ◌∙◌, ◌↔◌, IsErr}
 use Rattle.photon_cli.proofs.Words.{MAX_LINE, IfOk-weaker, Counts}
 use Rattle.photon_cli.proofs.log_check.step.is_as_first.Goals as goal
 

@@ -1,5 +1,4 @@
-use Rattle.std.proofs.Common.{sym, subst}
-use Rattle.std.specs.Prelude.{IfOk}
+use Rattle.std.proofs.Common.{sym, subst, IfOk}
 use Rattle.registry_server.proofs.Words.{IfOk-weaker, IsSpelledPlan, RegistrarView, Knows}
 use Rattle.registry_server.proofs.Registering.{Decides, IsFit, decides, stays, goes, fit}
 use Rattle.registry_server.proofs.registrar.Registrar.decide.Goals as goal

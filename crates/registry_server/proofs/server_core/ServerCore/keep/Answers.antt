@@ -1,5 +1,4 @@
-use Rattle.std.proofs.Common.{ℕ, sym, ap, ◌∙◌}
-use Rattle.std.specs.Prelude.{Option, option_map}
+use Rattle.std.proofs.Common.{ℕ, sym, ap, ◌∙◌, Option, option_map}
 use Rattle.registry_server.proofs.Words.{land, ServerKept, ServerNote, land_server, note_of}
 use Rattle.registry_server.proofs.server_core.ServerCore.keep.Goals as goal
 

@@ -1,5 +1,4 @@
-use Rattle.std.proofs.Common.{refl, subst}
-use Rattle.std.specs.Prelude.{Option}
+use Rattle.std.proofs.Common.{refl, subst, Option}
 use Rattle.registry_server.proofs.Words.{cond-false, gets_promise, Ballot, Batch, IsStep, Promise, setting}
 use Rattle.registry_server.proofs.Answering.{none_gives, promise_gives}
 use Rattle.registry_server.proofs.shard.Shard.gets_promise.Goals as goal

@@ -1,5 +1,4 @@
-use Rattle.std.proofs.Common.{◌++◌, List, ap, sym, ◌∙◌, ◌≡◌, true, false, ◌+◌, take, rules}
-use Rattle.std.specs.Prelude.{min}
+use Rattle.std.proofs.Common.{◌++◌, List, ap, sym, ◌∙◌, ◌≡◌, true, false, ◌+◌, take, rules, min}
 use Rattle.registry_server.proofs.Words.{MOST_INSERTS, Ballot, Place, batch_of, waiting, Prepare, to_replicas, cond-false, Packet, Node, setting, sent}
 use Rattle.registry_server.proofs.Rowing.{proposed_gives, same_row}
 use Rattle.registry_server.proofs.shard.Shard.propose.Goals as goal

@@ -1,5 +1,4 @@
-use Rattle.std.proofs.Common.{◌≡◌, ◌≤◌, length}
-use Rattle.std.specs.Prelude.{vec_capacity}
+use Rattle.std.proofs.Common.{◌≡◌, ◌≤◌, length, vec_capacity}
 use Rattle.site_run.proofs.Words.{count_of, view_of}
 use Rattle.site_run.proofs.Making.{AreMade}
 use Rattle.site_run.proofs.built.building.build.Given as goal

@@ -1,5 +1,4 @@
-use Rattle.std.proofs.Common.{◌≡◌, drop}
-use Rattle.std.specs.Prelude.{map}
+use Rattle.std.proofs.Common.{◌≡◌, drop, map}
 use Rattle.site_run.proofs.Words.{Mem}
 use Rattle.site_run.proofs.built.taking.take_disk.Given as goal
 

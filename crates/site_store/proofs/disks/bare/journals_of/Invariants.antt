@@ -1,5 +1,4 @@
-use Rattle.std.proofs.Common.{◌≡◌, ◌+◌, ◌≤◌, ◌++◌, length}
-use Rattle.std.specs.Prelude.{flat_map, vec_capacity}
+use Rattle.std.proofs.Common.{◌≡◌, ◌+◌, ◌≤◌, ◌++◌, length, flat_map, vec_capacity}
 use Rattle.site_store.proofs.Words.{into_iter_items, into_iter_len, all_lent, lent_all, kept_all, notes_at, pairs_at}
 use Rattle.site_store.proofs.disks.bare.journals_of.Given as goal
 

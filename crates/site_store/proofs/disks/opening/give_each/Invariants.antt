@@ -1,5 +1,4 @@
-use Rattle.std.proofs.Common.{◌≡◌, ◌+◌, ◌≤◌, ℕ, List, length, IsTrue}
-use Rattle.std.specs.Prelude.{vec_len}
+use Rattle.std.proofs.Common.{◌≡◌, ◌+◌, ◌≤◌, ℕ, List, length, IsTrue, vec_len}
 use Rattle.site_store.proofs.Words.{Each, DiskName, MayBeLeft, AllKept, lent_all}
 use Rattle.site_store.proofs.disks.opening.give_each.Given as goal
 

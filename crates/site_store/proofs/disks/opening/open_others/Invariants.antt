@@ -1,5 +1,4 @@
-use Rattle.std.proofs.Common.{◌≡◌, ◌+◌, ◌≤◌, length, take, IsTrue}
-use Rattle.std.specs.Prelude.{map, vec_len, vec_capacity}
+use Rattle.std.proofs.Common.{◌≡◌, ◌+◌, ◌≤◌, length, take, IsTrue, map, vec_len, vec_capacity}
 use Rattle.site_store.proofs.Words.{Each, IsLent, IsOfKind, IsKept, kept_by, lent_all}
 use Rattle.site_store.specs.Plans.{AreAsPlanned}
 use Rattle.site_store.proofs.disks.opening.open_others.Given as goal

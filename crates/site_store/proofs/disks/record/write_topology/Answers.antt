@@ -1,5 +1,4 @@
-use Rattle.std.proofs.Common.{◌∙◌, sym, subst}
-use Rattle.std.specs.Prelude.{Option}
+use Rattle.std.proofs.Common.{◌∙◌, sym, subst, Option}
 use Rattle.topology_journal.specs.Topologies.{MayCome}
 use Rattle.site_store.proofs.Words.{Topology}
 use Rattle.site_store.proofs.Appending.{old_or_written}

@@ -1,5 +1,4 @@
-use Rattle.std.proofs.Common.{◌≡◌, ◌+◌, ◌≤◌, ℕ, List, length, IsTrue}
-use Rattle.std.specs.Prelude.{vec_len}
+use Rattle.std.proofs.Common.{◌≡◌, ◌+◌, ◌≤◌, ℕ, List, length, IsTrue, vec_len}
 use Rattle.site_store.proofs.Words.{Each, DiskName, MayBeLeft, all_lent}
 use Rattle.site_store.proofs.Handing.{OutOrRose}
 use Rattle.site_store.proofs.lent.giving.give_all.Given as goal

@@ -1,15 +1,10 @@
 use Rattle.std.proofs.Common.{rules, ◌≡◌, ◌≢◌, ℕ, ◌+◌, ◌≤◌, Bool, true, false, List, Option, None, Some, Err, arith, refl, sym, ap, ◌∙◌, subst}
-use Rattle.std.specs.List.{list_any}
-use Rattle.air_bus.specs.declared.entry.Entry.{Entry}
-use Rattle.air_bus.specs.declared.entry.Entry.TheVariants.{Begin, End, Stop}
+use Rattle.site_workers.proofs.Words.{Begin, End, Entry, HasMet, IsIdle, NodeFault, Stop, is_stop, list_any, phase, stop_count}
 use Rattle.air_bus.specs.declared.entry.Phase.TheVariants.{Down, Idle}
-use Rattle.air_bus.specs.History.{phase}
 use Rattle.outside.specs.Faults.{added}
-use Rattle.site_node.specs.declared.kind.NodeFault.{NodeFault}
 use Rattle.site_node.specs.declared.kind.NodeFault.TheVariants.{Stopped, Disk, Read}
 use Rattle.site_node.specs.Faults.{HasFailed, IsOfTurn, IsOfRestart, IsWhole}
-use Rattle.site_workers.specs.Works.{IsIdle, HasMet, is_stop, stop_count}
-use Rattle.site_workers.proofs.Stepping.{Opened, none_of, in_turn, went_on, went_from, went_looking, went_short, opened, ended, stopped, met_more, eighth, told_same, too_often_told, plan_done, plan_stopped, plan_shut, plan_left, was_met, turn_closed, turn_left}
+use Rattle.site_workers.proofs.Stepping.{Opened, none_of, went_on, went_from, went_looking, went_short, opened, ended, stopped, met_more, met_refused, eighth, told_same, too_often_told, plan_done, plan_stopped, plan_shut, plan_left, was_met, turn_closed, turn_left}
 use Rattle.site_workers.proofs.worker.Worker.step.Given.{Over}
 use Rattle.site_workers.proofs.worker.Worker.step.Goals as goal
 use Rattle.site_workers.proofs.worker.Worker.step.Goals.{After-turn}
@@ -141,7 +136,10 @@ invariant_of-self-inside-in-Ok g c =
           λ is up. rests,
           (
             record { disk = λ disk is. absurd (cc (sym none_is ∙ is)); read = λ is. absurd (cc (sym none_is ∙ is)) },
-            (λ is. (omega (arith, before.0, same, still), before.1), (met, tt)),
+            (
+              λ is. (omega (arith, before.0, same, still), before.1),
+              (met, tt),
+            ),
           ),
         ),
       ),
@@ -204,8 +202,7 @@ invariant_of-self-inside-in-Err-turn g c =
     let s1 = c.begin.new.seat in
     let w = c.turn.new.self in
     let fault = c.in-Err-turn.fault in
-    let other : fault ≢ Stopped = search rules in
-    let begun = met_more m.faults m.waits self.node w self.fault self.seat.mine s1.mine (Begin (m.number self.node) c.in-Ok-Some.input) (begins g after).begun.mine refl c.turn.ensures.count self.met in (
+    let other : fault ≢ Stopped = search rules in (
       c.begin.ensures.kept.1 ∙ self.whose ∙ ap Some (sym c.turn.ensures.number),
       (
         λ is. absurd (cc is),
@@ -222,16 +219,7 @@ invariant_of-self-inside-in-Err-turn g c =
             },
             (
               λ is. absurd (cc is),
-              (
-                record {
-                  up = λ is. absurd (cc is);
-                  stops = begun.0;
-                  most = begun.1;
-                  ended = λ is. absurd (other (told_same fault Stopped is));
-                  within = λ f is other short. in_turn self.seat.mine s1.mine (Begin (m.number self.node) c.in-Ok-Some.input) (begins g after).begun.mine refl;
-                },
-                tt,
-              ),
+              (met_refused m.faults m.waits self.node w self.fault fault self.seat.mine s1.mine (m.number self.node) c.in-Ok-Some.input (begins g after).begun.mine other c.turn.ensures.count self.met, tt),
             ),
           ),
         ),
@@ -248,7 +236,7 @@ invariant_of-self-inside-in-Err-restart g c =
     let fault = c.in-Err-restart.fault in
     let kind = c.in-Err-restart.ensures.kind in
     let grew : m.faults self.node ≤ m.faults w = omega (arith, c.turn.ensures.count, c.in-Err-restart.ensures.count) in
-    let begun = met_more m.faults m.waits self.node w self.fault self.seat.mine s1.mine (Begin (m.number self.node) c.in-Ok-Some.input) (begins g after).begun.mine refl grew self.met in (
+    let other : fault ≢ Stopped = λ is. absurd (subst IsOfRestart is kind) in (
       c.begin.ensures.kept.1 ∙ self.whose ∙ ap Some (sym (c.restart.ensures.number ∙ c.turn.ensures.number)),
       (
         λ is. absurd (cc is),
@@ -261,16 +249,7 @@ invariant_of-self-inside-in-Err-restart g c =
             },
             (
               λ is. absurd (cc is),
-              (
-                record {
-                  up = λ is. absurd (cc is);
-                  stops = begun.0;
-                  most = begun.1;
-                  ended = λ is. absurd (subst IsOfRestart (told_same fault Stopped is) kind);
-                  within = λ f is other short. in_turn self.seat.mine s1.mine (Begin (m.number self.node) c.in-Ok-Some.input) (begins g after).begun.mine refl;
-                },
-                tt,
-              ),
+              (met_refused m.faults m.waits self.node w self.fault fault self.seat.mine s1.mine (m.number self.node) c.in-Ok-Some.input (begins g after).begun.mine other grew self.met, tt),
             ),
           ),
         ),

@@ -1,5 +1,4 @@
-use Rattle.std.proofs.Common.{◌∷◌, [], ◌++◌, ℕ, List, ap, sym, ◌∙◌}
-use Rattle.std.specs.Prelude.{map}
+use Rattle.std.proofs.Common.{◌∷◌, [], ◌++◌, ℕ, List, ap, sym, ◌∙◌, map}
 use Rattle.verify_pass.proofs.Words.{append-nil, on_ok_weaker, Ballot, Batch, place_of, ReplicaNote, is_place, cast_of, casts, casts_at, group_at}
 use Rattle.verify_pass.proofs.Groups.{promised_none, accepted_one, group_push}
 use Rattle.verify_pass.proofs.chosen.Chosen.take_note.Goals as goal

@@ -1,5 +1,5 @@
 use Rattle.std.proofs.Common.{arith, length, ap}
-use Rattle.registry_state.specs.declared.Insert.{Insert}
+use Rattle.packet_codec.proofs.Words.{Insert}
 use Rattle.packet_codec.proofs.Counts.{length-inserts}
 use Rattle.packet_codec.proofs.fields.batches.InsertsField.put.Goals as goal
 

@@ -1,11 +1,6 @@
 use Rattle.std.proofs.Common.{◌≡◌, ◌++◌, [], ◌∷◌, List, ap, length, ◌∙◌, sym, subst, arith}
-use Rattle.std.proofs.lemmas.List.{length-append}
-use Rattle.registry_state.specs.declared.Insert.{Insert}
-use Rattle.list_words.specs.Lists.{Each}
+use Rattle.packet_codec.proofs.Words.{AreCounted, Each, Insert, IsInsert, Spelled, counted, inserts, length-append}
 use Rattle.list_words.proofs.Lists.{each_append}
-use Rattle.turn_defs.specs.Spellings.{IsInsert, inserts}
-use Rattle.packet_codec.specs.Bad.{Spelled}
-use Rattle.packet_codec.specs.Counted.{counted, AreCounted}
 use Rattle.packet_codec.proofs.BadPlaces.{stopped}
 use Rattle.packet_codec.proofs.Counts.{inserts_read}
 use Rattle.packet_codec.proofs.Made.{counted_bad}

@@ -1,6 +1,5 @@
 use Rattle.std.proofs.Common.{◌≡◌, ◌∷◌, ◌++◌, length}
-use Rattle.list_words.specs.Lists.{Each}
-use Rattle.turn_defs.specs.Spellings.{IsInsert, inserts}
+use Rattle.packet_codec.proofs.Words.{Each, IsInsert, inserts}
 use Rattle.packet_codec.proofs.fields.batches.InsertsField.read.Given as goal
 
 abbrev pub invariant-loop : goal.invariant-loop

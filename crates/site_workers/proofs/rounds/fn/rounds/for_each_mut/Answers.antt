@@ -1,6 +1,5 @@
 use Rattle.std.proofs.Common.{sym, subst}
-use Rattle.site_workers.specs.Works.{WorkerView}
-use Rattle.site_workers.specs.Rounds.{WentOn}
+use Rattle.site_workers.proofs.Words.{WentOn, WorkerView}
 use Rattle.site_workers.proofs.Stepping.{went_on}
 use Rattle.site_workers.proofs.rounds.fn.rounds.for_each_mut.Given.{Over}
 use Rattle.site_workers.proofs.rounds.fn.rounds.for_each_mut.Goals as goal

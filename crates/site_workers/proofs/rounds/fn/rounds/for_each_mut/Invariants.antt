@@ -1,4 +1,4 @@
-use Rattle.site_workers.specs.Rounds.{WentOn}
+use Rattle.site_workers.proofs.Words.{WentOn}
 use Rattle.site_workers.proofs.rounds.fn.rounds.for_each_mut.Given as goal
 
 abbrev pub invariant-loop : goal.invariant-loop
