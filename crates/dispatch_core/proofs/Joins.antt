@@ -37,9 +37,8 @@ abbrev pub joined : ℕ → ℕ × Click → To × Packet
 joined site j = join site j.0 j.1
 
 to_site : (g : Setting) (site k : ℕ) → site < 2 → k < g.config.joiners → IsTo g (AnyJoiner site) (joiner_at site g.config k)
-to_site g zero k two below = grind arith
-to_site g (suc zero) k two below = grind arith
 to_site g (suc (suc s)) k two below = absurd (omega (arith, two))
+to_site g _ k two below = grind arith
 
 pub addressed : (g : Setting) (site : ℕ) (c : Config) (k : ℕ) → g.config ≡ c → site < 2 → k < c.joiners → ((m : ℕ) → m % c.joiners < c.joiners) → (js : List (ℕ × Click)) → Addressed g (map (joined site) js) (dealt site c k js)
 addressed g site c k is two below wraps [] = tt
@@ -54,9 +53,8 @@ waiting_are g site k l (x ∷ xs) = grind (arith, waiting_are g site k l xs)
 
 pub trying_are : (g : Setting) (site : ℕ) (k : DispatcherKept) (l : DispatcherLive) (ps : List ℕ) (cs : List Click) → AreClicksAt g ps cs → map (joined site) (zip ps cs) ≡ trying_joins g site k l ps
 trying_are g site k l [] [] h = refl
-trying_are g site k l [] (c ∷ cs) h = absurd h
-trying_are g site k l (p ∷ ps) [] h = absurd h
 trying_are g site k l (p ∷ ps) (c ∷ cs) h = grind (arith, trying_are g site k l ps cs h.1)
+trying_are g site k l _ _ h = absurd h
 
 pub tick_are : (g : Setting) (site : ℕ) (k : DispatcherKept) (l : DispatcherLive) (xs : List FreshLine) (fs : List Fresh) (ps qs : List ℕ) (cs : List Click) → map fresh_of xs ≡ fs → ps ≡ qs → AreClicksAt g qs cs
     → map (joined site) (waiting_joins xs ++ zip ps cs) ≡ fresh_joins g site k l fs ++ trying_joins g site k l qs

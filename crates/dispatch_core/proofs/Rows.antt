@@ -27,7 +27,7 @@ second b c x y z h i = cond-false b x (cond c y z) h ∙ cond-true c y z i
 pub third : {A : Type 0} (b c : Bool) (x y z : A) → b ≡ false → c ≡ false → cond b x (cond c y z) ≡ z
 third b c x y z h i = cond-false b x (cond c y z) h ∙ cond-false c y z i
 
-pub sends_of : (core : DispatchCore) (a d : Outbox) (turn : Turn) (change : Change) (js : List (ℕ × Click)) → a.dealer ≡ core.dealer → a.packets.items ≡ [] → Puts a d js → turn.change ≡ change → turn.packets.items ≡ d.packets.items → turn.next ≡ d.dealer.next
+pub sends_of : (core : DispatchCore) (a d : Outbox) (turn : Turn) (change : Change) (js : List (ℕ × Click)) → a.dealer ≡ core.dealer → a.packets.items ≡ [] → Puts a d js → turn.step.change ≡ change → turn.packets.items ≡ d.packets.items → turn.step.next ≡ d.dealer.next
     → Each IsJoin js → Sends core turn change js
 sends_of core a d turn change js same none p is packets next spelled = grind arith
 

@@ -26,8 +26,7 @@ one_more c xs p q h = go (nat_eq p q) ∙ sym (has_push xs p q)
     or_true h = grind arith
 
     or_false : (b : Bool) → b ≡ (b || false)
-    or_false true = refl
-    or_false false = refl
+    or_false h = grind arith
 
     go : (b : Bool) → cond b true c ≡ (has xs q || b)
     go true = or_true (has xs q)

@@ -1,9 +1,7 @@
 -- What a turn of the core says: its note, and what it makes of the volatile state.
 use Rattle.std.specs.Prelude.{true, false, [], ◌∷◌, ◌++◌, take, drop, Option, Some, None}
-use Rattle.list_words.specs.Lists.{without}
-use Rattle.turn_defs.specs.Turns.{Note}
+use Rattle.dispatch_core.specs.Terms.{without, Note, DispatcherLive, after_done, mark}
 use Rattle.turn_defs.specs.Turns as turns
-use Rattle.turn_defs.specs.Dispatcher.{DispatcherLive, after_done, mark}
 use Rattle.dispatch_core.specs.Windows.{fresh_of}
 use Rattle.dispatch_core.specs.declared.turns.DispatchNote.{DispatchNote}
 use Rattle.dispatch_core.specs.declared.turns.DispatchNote.TheVariants as note
@@ -21,13 +19,7 @@ abbrev pub note_of : Change → Option Note
 note_of (Advance e) = Some (turns.Advance e)
 note_of (Park p) = Some (turns.Park p)
 note_of (Settle p) = Some (turns.Settle p)
-note_of Nothing = None
-note_of (Start place pending due) = None
-note_of Retry = None
-note_of (Take f) = None
-note_of End = None
-note_of (Finish p) = None
-note_of (Leave p) = None
+note_of _ = None
 
 -- what is known once the change is kept
 abbrev pub changed : Change → DispatcherLive → DispatcherLive

@@ -1,11 +1,6 @@
 -- Joins go to the joiners of a site in turn.
 use Rattle.std.specs.Prelude.{◌≡◌, ℕ, ◌+◌, ◌*◌, ◌%◌, List, [], ◌∷◌}
-use Rattle.log_records.specs.declared.records.ClickRec.{ClickRec as Click}
-use Rattle.turn_defs.specs.declared.config.Config.{Config}
-use Rattle.turn_defs.specs.declared.packet.Packet.{Packet}
-use Rattle.turn_defs.specs.declared.packet.Packet.TheVariants.{Join}
-use Rattle.turn_defs.specs.declared.node.Node.{Node}
-use Rattle.turn_defs.specs.declared.node.Node.TheVariants.{Joiner}
+use Rattle.dispatch_core.specs.Terms.{Click, Config, Packet, Join, Node, Joiner}
 
 -- number k of the joiners of a site
 abbrev pub joiner_at : (site : ℕ) → Config → (k : ℕ) → Node

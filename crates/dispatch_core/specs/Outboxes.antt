@@ -1,6 +1,6 @@
 -- Joins that are put behind others.
 use Rattle.std.specs.Prelude.{◌≡◌, ℕ, List, [], ◌∷◌, ◌++◌, if◌then◌else◌}
-use Rattle.log_records.specs.declared.records.ClickRec.{ClickRec as Click}
+use Rattle.dispatch_core.specs.Terms.{Click}
 use Rattle.dispatch_core.specs.Dealing.{dealt, next_after}
 use Rattle.dispatch_core.specs.declared.line.FreshLine.{FreshLine}
 use Rattle.dispatch_core.specs.declared.outbox.Outbox.{Outbox}

@@ -1,17 +1,9 @@
 -- Worked turns of a dispatcher, on a log of one click line that ends at 36.
 use Rattle.std.specs.Prelude.{◌≡◌, ℕ, Bool, true, false, List, [], ◌∷◌, Some, None}
 use Rattle.log_records.specs.Rows.{one_click}
-use Rattle.turn_defs.specs.declared.packet.Packet.{Packet}
-use Rattle.turn_defs.specs.declared.packet.Packet.TheVariants.{Joined}
-use Rattle.turn_defs.specs.declared.packet.Outcome.{Outcome}
-use Rattle.turn_defs.specs.declared.packet.Outcome.TheVariants.{Written, Already, TooOld, NoQuery, Busy}
-use Rattle.turn_defs.specs.declared.node.Node.TheVariants.{Joiner}
-use Rattle.turn_defs.specs.declared.node.To.{To}
-use Rattle.turn_defs.specs.declared.node.Input.{Input}
+use Rattle.dispatch_core.specs.Terms.{Packet, Joined, Outcome, Written, Already, TooOld, NoQuery, Busy, Joiner, To, Input, Note, Advance, Park, Settle, Out, idle, DispatcherKept, DispatcherLive, Fresh, join, dispatcher_start, dispatcher_turn, dispatcher_wants, dispatcher_unfinished, dispatcher_at_rest}
 use Rattle.turn_defs.specs.declared.node.Input.TheVariants.{Own, Tick, Deliver}
-use Rattle.turn_defs.specs.Turns.{Note, Advance, Park, Settle, Out, idle}
 use Rattle.turn_defs.specs.Rows.{worked, token}
-use Rattle.turn_defs.specs.Dispatcher.{DispatcherKept, DispatcherLive, Fresh, join, dispatcher_start, dispatcher_turn, dispatcher_wants, dispatcher_unfinished, dispatcher_at_rest}
 
 -- the offset, and the pending positions
 abbrev pub kept : ℕ → List ℕ → DispatcherKept

@@ -1,11 +1,6 @@
 -- What has spellings: the clicks that a turn takes, and the packets that it sends.
 use Rattle.std.specs.Prelude.{ℕ, List, All, IfSome}
-use Rattle.log_records.specs.Line.{IsClick}
-use Rattle.log_records.specs.declared.records.ClickRec.{ClickRec as Click}
-use Rattle.turn_defs.specs.declared.packet.Packet.{Packet}
-use Rattle.turn_defs.specs.declared.packet.Packet.TheVariants.{Join}
-use Rattle.turn_defs.specs.declared.node.Node.{Node}
-use Rattle.turn_defs.specs.Packets.{IsPacket}
+use Rattle.dispatch_core.specs.Terms.{IsClick, Click, Packet, Join, Node, IsPacket}
 use Rattle.dispatch_core.specs.declared.input.DispatchInput.{DispatchInput}
 use Rattle.dispatch_core.specs.declared.input.DispatchInput.TheVariants as input
 use Rattle.dispatch_core.specs.declared.input.TakenLine.{TakenLine}
@@ -18,8 +13,7 @@ IsJoin j = IsPacket (Join j.0 j.1)
 abbrev pub IsTaken : DispatchInput → Type 0
 IsTaken (input.Own line due) = IfSome line (λ (t : TakenLine). IsClick t.click) × IfSome due IsClick
 IsTaken (input.Tick clicks) = All IsClick clicks.items
-IsTaken (input.Start offset pending) = Unit {0}
-IsTaken (input.Packet from p) = Unit {0}
+IsTaken _ = Unit {0}
 
 abbrev pub ArePackets : List (Node × Packet) → Type 0
 ArePackets ps = All (λ (p : Node × Packet). IsPacket p.1) ps

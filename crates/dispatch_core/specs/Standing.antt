@@ -1,17 +1,7 @@
 -- What a core stands for, what its input carries, and what its turns are.
 use Rattle.std.specs.Prelude.{◌≡◌, ℕ, ◌<◌, true, false, nat_eq, List, [], ◌∷◌, map, Option, Some, None, ⊤}
-use Rattle.std.specs.Option.{option_map}
-use Rattle.std.specs.VecDeque.{deque_len, deque_capacity}
-use Rattle.indexmap.specs.IndexSet.{contains, spare}
-use Rattle.list_words.specs.Lists.{has, Distinct, Each}
-use Rattle.log_records.specs.declared.records.ClickRec.{ClickRec as Click}
-use Rattle.log_records.specs.Lines.{ClickLine, at}
-use Rattle.turn_defs.specs.declared.node.Input.{Input}
+use Rattle.dispatch_core.specs.Terms.{option_map, deque_len, deque_capacity, contains, spare, has, Distinct, Each, Click, ClickLine, at, Input, Setting, Addressed, Out, DispatcherKept, DispatcherLive, dispatcher_turn, dispatcher_start, dispatcher_looks}
 use Rattle.turn_defs.specs.declared.node.Input.TheVariants as model
-use Rattle.turn_defs.specs.Setting.{Setting}
-use Rattle.turn_defs.specs.Nodes.{Addressed}
-use Rattle.turn_defs.specs.Turns.{Out}
-use Rattle.turn_defs.specs.Dispatcher.{DispatcherKept, DispatcherLive, dispatcher_turn, dispatcher_start, dispatcher_looks}
 use Rattle.dispatch_core.specs.Windows.{fresh_of, IsRising, AreBefore}
 use Rattle.dispatch_core.specs.Dealing.{dealt, next_after, GoInTurn}
 use Rattle.dispatch_core.specs.Changes.{note_of, changed}
@@ -20,9 +10,10 @@ use Rattle.dispatch_core.specs.declared.dispatch.DispatchCore.{DispatchCore}
 use Rattle.dispatch_core.specs.declared.input.DispatchInput.{DispatchInput}
 use Rattle.dispatch_core.specs.declared.input.DispatchInput.TheVariants as input
 use Rattle.dispatch_core.specs.declared.input.TakenLine.{TakenLine}
+use Rattle.dispatch_core.specs.declared.turns.Step.{Step}
 use Rattle.dispatch_core.specs.declared.turns.Turn.{Turn}
 use Rattle.dispatch_core.specs.declared.turns.Change.{Change}
-use Rattle.dispatch_core.specs.declared.turns.Change.TheVariants.{Nothing, Start, Advance, Retry, Take, End, Finish, Park, Settle, Leave}
+use Rattle.dispatch_core.specs.declared.turns.Change.TheVariants.{Start, Take}
 
 -- the volatile state that a core holds
 abbrev pub live_of : DispatchCore → DispatcherLive
@@ -61,9 +52,8 @@ IsLookedUp g l (p ∷ ps) line due = click_at g p ≡ due
 -- the clicks at these positions
 abbrev pub AreClicksAt : Setting → List ℕ → List Click → Type 0
 AreClicksAt g [] [] = ⊤
-AreClicksAt g [] (c ∷ cs) = ⊥
-AreClicksAt g (p ∷ ps) [] = ⊥
 AreClicksAt g (p ∷ ps) (c ∷ cs) = (click_at g p ≡ Some c) × AreClicksAt g ps cs
+AreClicksAt g _ _ = ⊥
 
 -- what a Start carries: what the disks hold, no position parked twice
 pub record IsKept (k : DispatcherKept) (offset : ℕ) (pending : List ℕ) : Type 0 where
@@ -81,38 +71,27 @@ Carries g k l (input.Packet from packet) i = i ≡ model.Deliver from packet
 -- the core can take the input: a Start whatever it stood for, any other input where it stands for k and l
 abbrev pub Takes : Setting → DispatchCore → DispatcherKept → DispatcherLive → DispatchInput → Type 0
 Takes g core k l (input.Start offset pending) = g.config ≡ core.dealer.config
-Takes g core k l (input.Own line due) = Stands g core k l
-Takes g core k l (input.Tick clicks) = Stands g core k l
-Takes g core k l (input.Packet from packet) = Stands g core k l
+Takes g core k l _ = Stands g core k l
 
 -- ---- turns
 
 -- what the turn table gives
 abbrev pub out_of : Setting → ℕ → DispatcherKept → DispatcherLive → Input → Out DispatcherLive
 out_of g site k l model.Start = dispatcher_start k
-out_of g site k l model.Own = dispatcher_turn g site k l model.Own
-out_of g site k l model.Tick = dispatcher_turn g site k l model.Tick
-out_of g site k l (model.Deliver from packet) = dispatcher_turn g site k l (model.Deliver from packet)
+out_of g site k l i = dispatcher_turn g site k l i
 
 -- the change may be kept: the state that it was decided for stands, and what it brings in fits it
 abbrev pub Fits : Setting → DispatchCore → DispatcherKept → DispatcherLive → Change → Type 0
 Fits g core k l (Start place pending due) = (g.config ≡ core.dealer.config) × (place ≡ k.offset) × (due.items ≡ k.pending) × ((p : ℕ) → contains nat_eq pending p ≡ has k.pending p) × Distinct k.pending
 Fits g core k l (Take f) = Stands g core k l × (f.position ≡ l.place) × (f.position < f.end)
-Fits g core k l Nothing = Stands g core k l
-Fits g core k l (Advance e) = Stands g core k l
-Fits g core k l Retry = Stands g core k l
-Fits g core k l End = Stands g core k l
-Fits g core k l (Finish p) = Stands g core k l
-Fits g core k l (Park p) = Stands g core k l
-Fits g core k l (Settle p) = Stands g core k l
-Fits g core k l (Leave p) = Stands g core k l
+Fits g core k l _ = Stands g core k l
 
 -- the turn is the row's, and may be kept
 pub record IsTurn (g : Setting) (core : DispatchCore) (k : DispatcherKept) (l : DispatcherLive) (turn : Turn) (out : Out DispatcherLive) : Type 0 where
-  pub note : note_of turn.change ≡ out.note
+  pub note : note_of turn.step.change ≡ out.note
   pub packets : Addressed g out.packets turn.packets.items
-  pub live : changed turn.change l ≡ out.live
-  pub fits : Fits g core k l turn.change
+  pub live : changed turn.step.change l ≡ out.live
+  pub fits : Fits g core k l turn.step.change
 
 -- there is room for one more of each kind
 pub record HasRoom (core : DispatchCore) : Type 0 where
@@ -120,10 +99,10 @@ pub record HasRoom (core : DispatchCore) : Type 0 where
   pub trying : 0 < spare core.trying
   pub pending : 0 < spare core.pending
 
--- the turn can be kept without memory
-pub record CanKeep (core : DispatchCore) (turn : Turn) : Type 0 where
+-- the step can be kept without memory
+pub record CanKeep (core : DispatchCore) (step : Step) : Type 0 where
   pub room : HasRoom core
-  pub next : turn.next < core.dealer.config.joiners
+  pub next : step.next < core.dealer.config.joiners
 
 -- the site and the run's numbers stay
 abbrev pub HasSameNumbers : DispatchCore → DispatchCore → Type 0
@@ -136,23 +115,21 @@ StandsAs old new = (g : Setting) (k : DispatcherKept) (l : DispatcherLive) → S
 -- the number of the joiner that comes first in the turn
 abbrev pub first_next : DispatchInput → ℕ → ℕ
 first_next (input.Start offset pending) n = 0
-first_next (input.Own line due) n = n
-first_next (input.Tick clicks) n = n
-first_next (input.Packet from packet) n = n
+first_next _ n = n
 
 -- ---- what the parts of a turn say
 
 -- the turn has this change, and these Joins, which have spellings, from the core's next joiner on
 pub record Sends (core : DispatchCore) (turn : Turn) (change : Change) (joins : List (ℕ × Click)) : Type 0 where
-  pub change_is : turn.change ≡ change
+  pub change_is : turn.step.change ≡ change
   pub packets : turn.packets.items ≡ dealt core.dealer.site core.dealer.config core.dealer.next joins
-  pub next : turn.next ≡ next_after core.dealer.config.joiners core.dealer.next joins
+  pub next : turn.step.next ≡ next_after core.dealer.config.joiners core.dealer.next joins
   pub spelled : Each IsJoin joins
 
 -- its packets have spellings, and go to the joiners in turn, from number n on
 pub record IsDealt (core : DispatchCore) (n : ℕ) (turn : Turn) : Type 0 where
-  pub in_turn : GoInTurn core.dealer.site core.dealer.config n turn.packets.items turn.next
-  pub below : turn.next < core.dealer.config.joiners
+  pub in_turn : GoInTurn core.dealer.site core.dealer.config n turn.packets.items turn.step.next
+  pub below : turn.step.next < core.dealer.config.joiners
   pub spelled : ArePackets turn.packets.items
 
 -- the same state, whatever room there is

@@ -1,7 +1,7 @@
 -- The window as the core holds it.
 use Rattle.std.specs.Prelude.{◌≡◌, ℕ, ◌+◌, ◌<◌, ◌≤◌, ◌==◌, false, List, [], ◌∷◌, length, map, slice_index_or, Result, Ok, Err, ⊤}
 use Rattle.dispatch_core.specs.declared.line.FreshLine.{FreshLine}
-use Rattle.turn_defs.specs.Dispatcher.{Fresh}
+use Rattle.dispatch_core.specs.Terms.{Fresh}
 
 -- the entry that a line is
 abbrev pub fresh_of : FreshLine → Fresh

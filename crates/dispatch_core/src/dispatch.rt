@@ -1,16 +1,6 @@
 // The dispatcher's core: the rows of its turns.
-ghost use Rattle.std.specs.Prelude.{◌≡◌, ℕ, ◌<◌, ◌==◌, List, [], ◌∷◌, All, true, false, nat_eq, cond, if◌then◌else◌};
-ghost use Rattle.std.specs.Prelude.{IfOk, OnOk, IfSome, IfNone};
-ghost use Rattle.std.specs.VecDeque.{deque_len, deque_capacity};
-ghost use Rattle.indexmap.specs.IndexSet.{contains, spare};
-ghost use Rattle.log_records.specs.Line.{IsClick};
-ghost use Rattle.log_records.specs.Lines.{at};
-ghost use Rattle.turn_defs.specs.Setting.{Setting};
-ghost use Rattle.turn_defs.specs.Turns.{Out, land, idle};
-ghost use Rattle.turn_defs.specs.declared.node.Input.{Input};
-ghost use Rattle.turn_defs.specs.Dispatcher.{DispatcherKept, DispatcherLive, land_dispatcher, has_room, retries, takes, ends, parks};
-ghost use Rattle.turn_defs.specs.Dispatcher.{dispatcher_start, dispatcher_own, dispatcher_tick, dispatcher_gets};
-ghost use Rattle.turn_defs.specs.Dispatcher.{dispatcher_wants, dispatcher_looks, dispatcher_unfinished, dispatcher_at_rest};
+ghost use Rattle.std.specs.Prelude.{◌≡◌, ℕ, ◌<◌, ◌==◌, List, [], ◌∷◌, All, true, false, nat_eq, cond, if◌then◌else◌, IfOk, OnOk, IfSome, IfNone};
+ghost use Rattle.dispatch_core.specs.Terms.{deque_len, deque_capacity, contains, spare, IsClick, at, Setting, land, idle, Input, DispatcherKept, DispatcherLive, land_dispatcher, has_room, retries, takes, ends, parks, dispatcher_start, dispatcher_own, dispatcher_tick, dispatcher_gets, dispatcher_wants, dispatcher_looks, dispatcher_unfinished, dispatcher_at_rest};
 ghost use Rattle.dispatch_core.specs.Dealing.{GoInTurn};
 ghost use Rattle.dispatch_core.specs.Changes.{note_of, changed};
 ghost use Rattle.dispatch_core.specs.Spelled.{IsTaken, ArePackets};
@@ -21,7 +11,7 @@ ghost use Rattle.dispatch_core.specs.Standing.{out_of, Fits, IsTurn, HasRoom, Ca
 use crate::dealer::Dealer;
 use crate::line::FreshLine;
 use crate::outbox::Outbox;
-use crate::turns::Change;
+use crate::turns::{Change, Step};
 use crate::window::{end_of_done, finish, has_waiting, is_first_done, is_waiting, pass_done};
 use crate::{DispatchInput, TakenLine, Turn};
 use indexmap::IndexSet;
@@ -148,12 +138,12 @@ impl DispatchCore {
         ensures same { StandsAs self.old self.new }
         ensures numbers { HasSameNumbers self.old self.new }
         ensures next { self.new.dealer.next ≡ self.old.dealer.next }
-        ensures ready { IfOk result (CanKeep self.new) }
+        ensures ready { IfOk result (λ turn. CanKeep self.new turn.step) }
         ensures turn { (g : Setting) (k : DispatcherKept) (l : DispatcherLive) (i : Input) →
             Takes g self.old k l input → Carries g k l input i →
             IfOk result (λ turn. IsTurn g self.new k l turn (out_of g self.old.dealer.site k l i)) }
         ensures joiners { IfOk result (λ turn. GoInTurn self.old.dealer.site self.old.dealer.config
-            (first_next input self.old.dealer.next) turn.packets.items turn.next) }
+            (first_next input self.old.dealer.next) turn.packets.items turn.step.next) }
         ensures spelled { IfOk result (λ turn. ArePackets turn.packets.items) }
     {
         self.make_room()?;
@@ -181,8 +171,10 @@ impl DispatchCore {
     {
         Turn {
             packets: Vec::new(self.alloc),
-            next: self.dealer.next,
-            change,
+            step: Step {
+                next: self.dealer.next,
+                change,
+            },
         }
     }
 
@@ -197,6 +189,7 @@ impl DispatchCore {
     }
 
     // Start: the place is the offset, what is pending is due, and nothing is fresh or in trial. Linear in what is pending.
+    #[tactic(auto, using(std::proofs::lemmas::List::take_more, std::proofs::lemmas::List::take_all, crate::proofs::Sets::one_more))]
     fn start(&self, offset: u64, pending: Vec<u64>) -> Result<Turn, AllocError>
         ensures turn { (g : Setting) (k : DispatcherKept) (l : DispatcherLive) → g.config ≡ self.now.dealer.config → IsKept k offset pending.items →
             IfOk result (λ turn. IsTurn g self.now k l turn (dispatcher_start k)) }
@@ -209,11 +202,13 @@ impl DispatchCore {
         let due = VecDeque::from_vec(pending);
         Ok(Turn {
             packets: Vec::new(self.alloc),
-            next: 0,
-            change: Change::Start {
-                place: offset,
-                pending: kept,
-                due,
+            step: Step {
+                next: 0,
+                change: Change::Start {
+                    place: offset,
+                    pending: kept,
+                    due,
+                },
             },
         })
     }
@@ -273,6 +268,7 @@ impl DispatchCore {
         }
     }
 
+    #[tactic(auto, using(crate::proofs::Rows::row_of, crate::proofs::Rows::as_out, crate::proofs::Rows::entered_live))]
     fn enter(&self, line: TakenLine) -> Result<Turn, AllocError>
         requires { IsClick line.click }
         ensures turn { (g : Setting) (k : DispatcherKept) (l : DispatcherLive) → Stands g self.now k l →
@@ -358,23 +354,20 @@ impl DispatchCore {
 
     /// Makes the next state of a turn that was decided on this very state. It takes no memory. At a Settle or a Leave the
     /// positions in trial behind it move up by one, at most 63; at an Advance it is linear in the lines that leave.
-    pub fn keep(&mut self, turn: Turn)
-        requires { CanKeep self.old turn }
-        ensures stands { (g : Setting) (k : DispatcherKept) (l : DispatcherLive) (out : Out DispatcherLive) →
-            IsTurn g self.old k l turn out → Stands g self.new (land land_dispatcher out.note k) out.live }
+    pub fn keep(&mut self, step: Step)
+        requires { CanKeep self.old step }
+        ensures stands { (g : Setting) (k : DispatcherKept) (l : DispatcherLive) →
+            Fits g self.old k l step.change → Stands g self.new (land land_dispatcher (note_of step.change) k) (changed step.change l) }
         ensures numbers { HasSameNumbers self.old self.new }
-        ensures next { self.new.dealer.next ≡ turn.next }
+        ensures next { self.new.dealer.next ≡ step.next }
     {
-        let Turn {
-            packets: _,
-            next,
-            change,
-        } = turn;
+        let Step { next, change } = step;
         self.make(change);
         self.dealer.next = next;
     }
 
     // The change is made.
+    #[tactic(auto, using(crate::proofs::Sets::one_more, crate::proofs::Sets::one_less, crate::proofs::Keeping::makes, crate::proofs::Keeping::kept_as, crate::proofs::Keeping::same_pending, crate::proofs::Keeping::ordered_core, crate::proofs::Keeping::retry_ordered, crate::proofs::Keeping::take_ordered, crate::proofs::Keeping::mark_ordered, crate::proofs::Keeping::leave_ordered))]
     fn make(&mut self, change: Change)
         requires { HasRoom self.old }
         ensures stands { (g : Setting) (k : DispatcherKept) (l : DispatcherLive) →
@@ -446,6 +439,7 @@ impl DispatchCore {
     }
 
     // The position isn't in trial any more, and stays pending.
+    #[tactic(auto, using(crate::proofs::Sets::removed))]
     fn leave_trial(&mut self, position: u64)
         ensures live { IsOrdered (live_of self.old) → live_of self.new ≡ changed (Change.Leave position) (live_of self.old) }
         ensures pending { self.new.pending ≡ self.old.pending }
@@ -455,6 +449,7 @@ impl DispatchCore {
     }
 
     // It isn't pending any more either.
+    #[tactic(auto, using(crate::proofs::Sets::removed))]
     fn remove_pending(&mut self, position: u64)
         ensures live { IsOrdered (live_of self.old) → live_of self.new ≡ changed (Change.Settle position) (live_of self.old) }
         ensures pending { (p : ℕ) → contains nat_eq self.new.pending p ≡ cond (position == p) false (contains nat_eq self.old.pending p) }

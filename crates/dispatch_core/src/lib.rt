@@ -13,4 +13,4 @@ mod window;
 
 pub use dispatch::DispatchCore;
 pub use input::{DispatchInput, TakenLine};
-pub use turns::{DispatchNote, Turn};
+pub use turns::{DispatchNote, Step, Turn};

@@ -1,4 +1,6 @@
 // A line of the window.
+ghost use Rattle.std.specs.Prelude.{◌≡◌};
+ghost use Rattle.dispatch_core.specs.Terms.{IsClick};
 ghost use Rattle.std.proofs.Props.{props};
 ghost use Rattle.dispatch_core.specs.Spelled.{IsJoin};
 
@@ -15,9 +17,6 @@ pub(crate) struct FreshLine {
 }
 
 impl FreshLine {
-    ghost use Rattle.std.specs.Prelude.{◌≡◌};
-    ghost use Rattle.log_records.specs.Line.{IsClick};
-
     pub(crate) fn new(position: u64, end: u64, click: ClickRec, done: bool) -> FreshLine
         requires { IsClick click }
         ensures position { result.position ≡ position }

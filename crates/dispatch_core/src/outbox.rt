@@ -1,12 +1,12 @@
 // Joins to send.
 ghost use Rattle.std.specs.Prelude.{◌≡◌, ◌<◌, ◌^◌, [], ◌∷◌, All, OnOk};
-ghost use Rattle.std.specs.List.{zip};
+ghost use Rattle.dispatch_core.specs.Terms.{zip};
 ghost use Rattle.dispatch_core.specs.Outboxes.{Puts, waiting_joins};
 
 use crate::Turn;
 use crate::dealer::Dealer;
 use crate::line::FreshLine;
-use crate::turns::Change;
+use crate::turns::{Change, Step};
 use log_records::ClickRec;
 use std::alloc::{AllocError, Global};
 use std::collections::VecDeque;
@@ -77,15 +77,17 @@ impl Outbox {
 
     // The turn with this change that sends them.
     pub(crate) fn turn(self, change: Change) -> Turn
-        ensures change { result.change ≡ change }
+        ensures change { result.step.change ≡ change }
         ensures packets { result.packets.items ≡ self.packets.items }
-        ensures next { result.next ≡ self.dealer.next }
+        ensures next { result.step.next ≡ self.dealer.next }
     {
         let Outbox { dealer, packets } = self;
         Turn {
             packets,
-            next: dealer.next,
-            change,
+            step: Step {
+                next: dealer.next,
+                change,
+            },
         }
     }
 }

@@ -1,6 +1,6 @@
 // What a turn gives.
 ghost use Rattle.std.specs.Prelude.{◌≡◌};
-ghost use Rattle.std.specs.Option.{option_map};
+ghost use Rattle.dispatch_core.specs.Terms.{option_map};
 ghost use Rattle.dispatch_core.specs.Changes.{note_of, told};
 
 use crate::line::FreshLine;
@@ -47,16 +47,21 @@ pub(crate) enum Change {
     Leave(u64),
 }
 
-/// What a turn gives: at most one record to write first, the packets to send once it is written, and what the core is to
-/// keep then. It is good for the state that it was decided for.
+/// What a turn gives: the packets to send once its record is written, and the step to keep then.
 #[derive(Debug, Drop)]
 pub struct Turn {
-    pub(crate) packets: Vec<(Node, Packet)>,
+    pub packets: Vec<(Node, Packet)>,
+    pub step: Step,
+}
+
+/// What the core is to keep of a turn. It is good for the state that the turn was decided for.
+#[derive(Debug, Drop)]
+pub struct Step {
     pub(crate) next: u8,
     pub(crate) change: Change,
 }
 
-impl Turn {
+impl Step {
     /// The record to write before the packets are sent, if any.
     pub fn note(&self) -> Option<DispatchNote>
         ensures { option_map told result ≡ note_of self.now.change }
@@ -67,12 +72,5 @@ impl Turn {
             Change::Settle(position) => Some(DispatchNote::Settle(*position)),
             _ => None,
         }
-    }
-
-    /// The packets, each with the node that it goes to.
-    pub fn packets(&self) -> &[(Node, Packet)]
-        ensures { result.now ≡ self.now.packets.items }
-    {
-        &self.packets
     }
 }

@@ -1,6 +1,6 @@
 // The window of lines that were taken and are not behind the offset yet.
 ghost use Rattle.std.specs.Prelude.{◌≡◌, map};
-ghost use Rattle.turn_defs.specs.Dispatcher.{first_done, done_end, after_done, waits, mark, some_waits};
+ghost use Rattle.dispatch_core.specs.Terms.{first_done, done_end, after_done, waits, mark, some_waits};
 ghost use Rattle.dispatch_core.specs.Windows.{fresh_of, IsRising, IsFound};
 
 use crate::line::FreshLine;
@@ -47,6 +47,7 @@ fn find(fresh: &VecDeque<FreshLine>, position: u64) -> Result<usize, usize>
 }
 
 // Whether a line that isn't done has this position. Logarithmic in the window.
+#[tactic(auto, using(crate::proofs::Found::waits_at, crate::proofs::Found::lacks_waits))]
 pub(crate) fn is_waiting(fresh: &VecDeque<FreshLine>, position: u64) -> bool
     ensures { IsRising (map fresh_of fresh.now.items) → result ≡ waits (map fresh_of fresh.now.items) position }
 {
@@ -60,6 +61,7 @@ pub(crate) fn is_waiting(fresh: &VecDeque<FreshLine>, position: u64) -> bool
 }
 
 // The line of this position is done. Logarithmic in the window, and without memory.
+#[tactic(auto, using(crate::proofs::Found::mark_at, crate::proofs::Found::lacks_mark))]
 pub(crate) fn finish(fresh: &mut VecDeque<FreshLine>, position: u64)
     ensures { IsRising (map fresh_of fresh.old.items) → map fresh_of fresh.new.items ≡ mark (map fresh_of fresh.old.items) position }
 {

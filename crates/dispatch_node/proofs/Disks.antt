@@ -1,9 +1,9 @@
--- What a journal of positions keeps, and why one isn't opened.
-use Rattle.std.proofs.Common.{◌≡◌, ℕ, Bool, true, false, not, ◌||◌, nat_eq, List, [], ◌∷◌, refl, ◌∙◌, IsTrue}
+-- What a journal of positions keeps, and what a stop leaves of both journals.
+use Rattle.std.proofs.Common.{◌≡◌, ℕ, Bool, true, false, not, ◌||◌, if◌then◌else◌, nat_eq, List, [], ◌∷◌, Some, refl, ◌∙◌, arith}
 use Rattle.std.specs.List.{IsDistinct}
-use Rattle.dispatch_node.proofs.Words.{AllByRecursion, remove_key, nat_eq_equiv, not-true, has, without, Distinct, Fold, folds_to, fails_at, JournalFault, IsUndamaged, any_has, removed}
-use Rattle.gate_journal.specs.declared.reading.JournalFault.TheVariants as journal
-use Rattle.gate_journal.specs.Records as of
+use Rattle.dispatch_node.proofs.Words.{AllByRecursion, remove_key, nat_eq_equiv, not-true, has, without, Distinct, any_has, removed, has_push-right, has_without-self, Doubts, Holds, IsFound, are_ready, kept, takes_note, told, Note, Numbered, DispatcherKept, DispatchNote, land_dispatcher}
+use Rattle.dispatch_node.specs.declared.journals.Journals.{Journals}
+use Rattle.outside.specs.declared.disk.Disk as disk
 use Rattle.retry_log.specs.Pending as pending
 
 -- ---- positions
@@ -23,9 +23,16 @@ settled xs p d = removed xs p (distinct_of xs d)
 pub none_parked : (xs : List ℕ) (p : ℕ) → not (has xs p) ≡ true → pending.is_among xs p ≡ false
 none_parked xs p h = any_has xs p ∙ not-true (has xs p) h
 
--- ---- faults
+pub pending_has : (xs : List ℕ) (p : ℕ) → has xs p ≡ true → pending.is_among xs p ≡ true
+pending_has xs p h = any_has xs p ∙ h
 
--- where each image keeps something, nothing is damaged
-pub undamaged : {V : Type 0} (format : Fold V) (tells : Bool) (f : JournalFault) (image : List ℕ → Type 0) (a b : ℕ) → IsTrue tells → ((c : List ℕ) → image c → (v : V) × of.Keeps (folds_to format) v c) → of.IsRefusedAgain (fails_at format) tells image a b f → IsUndamaged f
-undamaged format tells (journal.Damaged at) image a b t kept refused = let bad = refused t in let good = kept bad.0 bad.1 in absurd (cc (good.1, bad.2))
-undamaged format tells _ image a b t kept refused = tt
+-- ---- what a stop left
+
+-- a note that was written isn't taken again
+taken_once : (n : Note) (k : DispatcherKept) → takes_note k n ≡ true → takes_note (land_dispatcher n k) n ≡ false
+taken_once h k takes = grind (arith, has_push-right, has_without-self)
+
+-- they hold the note in doubt where it landed
+pub landed_as : {D : Type 0} {d : disk.Ghosts D} (old new : Journals D d) (k with : Numbered DispatcherKept) (note : DispatchNote) (landed : Bool) → Doubts old k with → IsFound old new → are_ready new ≡ true → new.in_doubt ≡ old.in_doubt → new.in_doubt ≡ Some note
+    → landed ≡ not (takes_note (kept new) (told note)) → Holds new (if landed then with else k)
+landed_as old new k with note landed doubts left ready same is tells = grind (arith, taken_once)

@@ -1,12 +1,14 @@
 -- A row's note is one that the disks take, and what is known goes on to fit what they keep.
-use Rattle.std.proofs.Common.{◌≡◌, ◌⊎◌, inl, inr, ⊎_elim, ℕ, ◌<◌, ◌≤◌, Bool, true, false, ◌==◌, List, [], ◌∷◌, ◌++◌, Option, Some, None, refl, sym, subst, arith, option_map}
-use Rattle.dispatch_node.proofs.Words.{and_parts, not-true, or_cases, eqb-true, eq-eqb, or_left, or_right, Mem, has, without, clash, option_both, cond_both, each_append, has_push-or, has_push-left, has_push-false, has_without-true, has_without, has_without-false, ClickLine, at, Follow, at_mem, Input, Packet, Outcome, Setting, Note, Out, land, idle, DispatcherKept, DispatcherLive, Fresh, land_dispatcher, done_end, after_done, first_done, waits, mark, has_room, with_room, advances, retries, takes, taken, ends, parks, dispatcher_own, dispatcher_gets, dispatcher_joined, dispatcher_turn, dispatcher_start, told, DispatchNote, takes_note, takes_or_none, AreInOrder, Follows, IsRowTaken, IsEntry, AreKeptPlaces, AreLivePlaces}
+use Rattle.std.proofs.Common.{◌≡◌, ◌⊎◌, inr, ⊎_elim, ℕ, ◌<◌, ◌≤◌, Bool, true, false, ◌==◌, List, [], ◌∷◌, ◌++◌, Some, refl, sym, subst, arith}
+use Rattle.std.specs.Prelude.{IfSome}
+use Rattle.dispatch_node.proofs.Words.{and_parts, lt-ltb, not-true, or_cases, eqb-true, eq-eqb, or_left, or_right, Mem, has, without, clash, option_both, cond_both, each_append, has_push-or, has_push-left, has_push-false, has_without-true, has_without, has_without-false, ClickLine, at, Follow, at_mem, Deliver, Input, Own, Start, Tick, Packet, Outcome, Setting, Out, land, idle, DispatcherKept, DispatcherLive, Fresh, land_dispatcher, done_end, after_done, first_done, waits, mark, has_room, with_room, advances, retries, takes, taken, ends, parks, dispatcher_own, dispatcher_gets, dispatcher_joined, dispatcher_turn, dispatcher_start, takes_note, AreInOrder, Follows, IsEntry, AreKeptPlaces, AreLivePlaces}
+use Rattle.turn_defs.specs.declared.packet.Outcome.TheVariants as outcome
 use Rattle.turn_defs.specs.declared.packet.Packet.TheVariants as packet
 use Rattle.dispatch_node.proofs.Places.{pushed, left_out, end_boundary, after_each, mark_each, waits_start}
 
 -- what a row leaves: the disks take its note, and what is known then fits what they keep then, at places of the log
-pub record GoesOn (g : Setting) (k : DispatcherKept) (out : Out DispatcherLive) : Type 0 where
-  pub taken : IsRowTaken k out.note
+pub record Leaves (g : Setting) (k : DispatcherKept) (out : Out DispatcherLive) : Type 0 where
+  pub taken : IfSome out.note (λ n. takes_note k n ≡ true)
   pub fits : Follows (land land_dispatcher out.note k) out.live
   pub places : AreKeptPlaces g k → AreKeptPlaces g (land land_dispatcher out.note k) × AreLivePlaces g out.live
 
@@ -15,10 +17,6 @@ pub record GoesOn (g : Setting) (k : DispatcherKept) (out : Out DispatcherLive) 
 end_after : (a : ℕ) (fs : List Fresh) (z : ℕ) → AreInOrder a fs z → a ≤ done_end a fs
 end_after a [] z o = omega arith
 end_after a (f ∷ fs) z o = grind (arith, end_after f.end_ fs z o.2)
-
-end_beyond : (a : ℕ) (fs : List Fresh) (z : ℕ) → AreInOrder a fs z → first_done fs ≡ true → a < done_end a fs
-end_beyond a [] z o e = clash false e refl
-end_beyond a (f ∷ fs) z o e = grind (arith, end_after, done_end)
 
 order_after : (a : ℕ) (fs : List Fresh) (z : ℕ) → AreInOrder a fs z → AreInOrder (done_end a fs) (after_done fs) z
 order_after a [] z o = o
@@ -50,18 +48,17 @@ waits_push (x ∷ fs) f q e = grind (arith, or_left, waits, or_right, waits_push
 
 not_empty : (ls : List ClickLine) (p : ℕ) (l : ClickLine) → Follow p ls → Mem l ls → l.place < l.end_
 not_empty [] p l f m = absurd m
-not_empty (x ∷ ls) p l f (inl e) = subst (λ (y : ClickLine). y.place < y.end_) e (let a = f.0 in let b = f.1 in omega arith)
-not_empty (x ∷ ls) p l f (inr m) = not_empty ls x.end_ l f.2 m
+not_empty (x ∷ ls) p l f h = grind (arith, not_empty ls x.end_ l f.2)
 
 module _ (g : Setting) (site : ℕ) (k : DispatcherKept) (l : DispatcherLive) (lines : Follow 0 g.clicks) (apart : (p : ℕ) → has l.due p ≡ true → has l.trying p ≡ false) (fits : Follows k l) (live : AreLivePlaces g l) where
   abbrev Out_ : Out DispatcherLive → Type 0
-  Out_ out = GoesOn g k out
+  Out_ out = Leaves g k out
 
   idles : Out_ (idle l)
   idles = record { taken = tt; fits = fits; places = λ kept. (kept, live) }
 
   advance : first_done l.fresh ≡ true → Out_ (advances g site k l)
-  advance done = grind (arith, end_beyond, order_after, waits_after, end_boundary, after_each)
+  advance done = grind (arith, taken, lt-ltb, done_end, clash, end_after, order_after, waits_after, end_boundary, after_each)
 
   retry : (p : ℕ) (ps : List ℕ) → l.due ≡ p ∷ ps → Out_ (retries g site k l p ps (at g.clicks p))
   retry p ps due =
@@ -116,7 +113,9 @@ module _ (g : Setting) (site : ℕ) (k : DispatcherKept) (l : DispatcherLive) (l
   park p = grind (arith, cond_both, waits, taken, order_mark, waits_mark, has_push-false, has_push-left, pushed, waits_start, marked, has, has_without-true, tried)
 
   joined : (p : ℕ) (o : Outcome) → Out_ (dispatcher_joined g site k l p o)
-  joined p h = grind (arith, park, end_join)
+  joined p (outcome.NoQuery t) = park p
+  joined p outcome.Busy = idles
+  joined p _ = end_join p
 
   gets : (p : Packet) → Out_ (dispatcher_gets g site k l p)
   gets (packet.Joined p o) = joined p o
@@ -124,18 +123,11 @@ module _ (g : Setting) (site : ℕ) (k : DispatcherKept) (l : DispatcherLive) (l
 
   -- a turn of a node that is up
   pub turn_goes : (i : Input) → Out_ (dispatcher_turn g site k l i)
-  turn_goes h = grind (arith, idles, own, gets)
+  turn_goes Own = own
+  turn_goes (Deliver from p) = gets p
+  turn_goes Tick = record { taken = tt; fits = fits; places = λ kept. (kept, live) }
+  turn_goes Start = idles
 
 -- it comes up
-pub start_goes : (g : Setting) (k : DispatcherKept) → GoesOn g k (dispatcher_start k)
+pub start_goes : (g : Setting) (k : DispatcherKept) → Leaves g k (dispatcher_start k)
 start_goes g k = grind (arith, taken)
-
--- ---- notes as the core has them
-
-taken_note : (k : DispatcherKept) (n : DispatchNote) → IsRowTaken k (Some (told n)) → takes_note k n ≡ true
-taken_note k h is = grind arith
-
--- the disks take a note that is the row's
-pub taken_row : (k : DispatcherKept) (n : Option DispatchNote) (row : Option Note) → option_map told n ≡ row → IsRowTaken k row → takes_or_none k n ≡ true
-taken_row k None row e is = refl
-taken_row k (Some n) row e is = taken_note k n (subst (λ (m : Option Note). IsRowTaken k m) (sym e) is)

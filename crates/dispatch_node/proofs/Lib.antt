@@ -2,8 +2,6 @@ pub mod Words
 pub mod Places
 pub mod Following
 pub mod Reading
-pub mod Standing
-pub mod Turning
-pub mod Restarting
 pub mod Disks
 pub mod Carried
+pub mod Deciding

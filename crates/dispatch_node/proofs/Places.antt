@@ -1,5 +1,5 @@
 -- Places of the log in what a dispatcher knows, as it changes.
-use Rattle.std.proofs.Common.{◌≡◌, ◌⊎◌, inr, ⊎_elim, ℕ, true, false, not, ◌&&◌, ◌==◌, List, [], ◌∷◌, ◌++◌, refl, subst, arith}
+use Rattle.std.proofs.Common.{◌≡◌, inr, ⊎_elim, ℕ, true, false, not, ◌&&◌, ◌==◌, List, [], ◌∷◌, ◌++◌, refl, subst, arith}
 use Rattle.dispatch_node.proofs.Words.{and_parts, or_cases, eqb-true, Each, has, without, clash, has_push-or, has_without-true, IsBoundary, at_mem, Setting, Fresh, done_end, after_done, waits, mark, StartsAt, IsEntry}
 
 -- ---- the window

@@ -1,16 +1,14 @@
 -- What a reader of a checked log finds where a line starts, or where the last one ends.
-use Rattle.std.proofs.Common.{◌≡◌, ◌⊎◌, inl, inr, ⊎_elim, ℕ, suc, ◌+◌, ◌<◌, ◌≤◌, List, [], ◌∷◌, ◌++◌, length, drop, Option, Some, None, refl, sym, ap, ◌∙◌, subst, arith, Result, IfOk}
-use Rattle.dispatch_node.proofs.Words.{MAX_LINE, MAX_LOG, AllByRecursion, drop-append_seam, take_all, Lacks, split_same, lacks_none, Mem, Click, click_line, IsClick, line_feed, ClickLine, at, placed, end_from, Follow, click_right, click_lacks, at_mem, at_own, within_end, lines_follow, lines_stand, lines_end, IfOk-weaker, behind, IsNext, Next, Line, Long, NodeFault, IsLineAt, TakenLine, Setting, IsLogOf, IsReadable}
+use Rattle.std.proofs.Common.{◌≡◌, ◌⊎◌, inl, inr, ⊎_elim, ℕ, suc, ◌+◌, ◌≤◌, List, [], ◌∷◌, ◌++◌, length, drop, Option, Some, None, refl, sym, ap, ◌∙◌, subst, arith, Result, IfOk}
+use Rattle.dispatch_node.proofs.Words.{MAX_LOG, AllByRecursion, drop-append_seam, take_all, Lacks, split_same, lacks_none, Mem, Click, click_line, IsClick, line_feed, ClickLine, at, placed, end_from, Follow, click_right, click_lacks, at_mem, at_own, within_end, lines_follow, lines_stand, lines_end, IfOk-weaker, behind, IsNext, Next, Line, Long, NodeFault, IsLineAt, TakenLine, Setting, IsLogOf, IsReadable, End}
 use Rattle.log_records.specs.declared.why.Why.TheVariants as why
-use Rattle.tail_reader.specs.declared.tail.Next.TheVariants.{End}
 
 -- a line starts at p, or p is where the last one ends
 abbrev IsHere : List ClickLine → ℕ → ℕ → Type 0
 IsHere ls q p = ((l : ClickLine) × Mem l ls × (l.place ≡ p)) ⊎ (p ≡ end_from q ls)
 
 later : (x : ClickLine) (ls : List ClickLine) (q p : ℕ) → IsHere ls x.end_ p → IsHere (x ∷ ls) q p
-later x ls q p (inl m) = inl (m.0, inr m.1, m.2)
-later x ls q p (inr e) = inr e
+later x ls q p h = grind arith
 
 here_from : (ls : List ClickLine) (q p : ℕ) → Follow q ls → (p ≡ q) ⊎ ((l : ClickLine) × Mem l ls × (l.end_ ≡ p)) → IsHere ls q p
 here_from [] q p f h = grind arith
@@ -75,29 +73,6 @@ line_found log g p e line rest is readable end_ lacks bytes = ⊎_elim starts en
     ends : p ≡ end_from 0 g.clicks → (c : Click) × IsClick c × (line ≡ click_line c) × (at g.clicks p ≡ Some (record { place = p; end_ = e; click = c }))
     ends at_end = absurd (lacks_none line_feed line rest (subst (λ (b : List ℕ). Lacks line_feed b) bytes (end_lacks log g p is at_end)))
 
-pub no_long : (log : List ℕ) (g : Setting) (p : ℕ) (long rest : List ℕ) → IsLogOf log g → IsReadable g p → MAX_LINE < length long → Lacks line_feed long → behind log p ≡ long ++ line_feed ∷ rest → ⊥
-no_long log g p long rest is readable more lacks bytes =
-    let c = line_found log g p (p + length long + 1) long rest is readable refl lacks bytes in
-    click_right long c.0 why.TooLong c.1 c.2 (inl (λ le. absurd (omega (arith, le, more)), refl))
-
-pub end_found : (log : List ℕ) (g : Setting) (p : ℕ) → IsLogOf log g → IsReadable g p → Lacks line_feed (behind log p) → at g.clicks p ≡ None
-end_found log g p is readable lacks = ⊎_elim starts ends (here g p (lines_follow log g.clicks is.lines).0 readable)
-  where
-    starts : (l : ClickLine) × Mem l g.clicks × (l.place ≡ p) → at g.clicks p ≡ None
-    starts m =
-        let s = start_of log g p m.0 is m.1 m.2 in
-        absurd (lacks_none line_feed (click_line m.0.click) s.rest (subst (λ (b : List ℕ). Lacks line_feed b) s.bytes lacks))
-
-    none : p ≡ end_from 0 g.clicks → (o : Option ClickLine) → at g.clicks p ≡ o → o ≡ None
-    none at_end None e = refl
-    none at_end (Some l) e =
-        let m = at_mem g.clicks p l e in
-        let lt = within_end g.clicks 0 l (lines_follow log g.clicks is.lines).0 m.0 in
-        absurd (omega (arith, lt, m.1, at_end))
-
-    ends : p ≡ end_from 0 g.clicks → at g.clicks p ≡ None
-    ends at_end = none at_end (at g.clicks p) refl
-
 -- ---- what a turn takes
 
 pub line_taken : (log : List ℕ) (g : Setting) (p q e : ℕ) (n : Next) (line : List ℕ) (r : Result (Option TakenLine) NodeFault) → IsLogOf log g → IsReadable g p → IsNext log p n line → n ≡ Line q e
@@ -111,8 +86,20 @@ line_taken log g p q e n line r is readable next same taken =
 
 pub none_taken : (log : List ℕ) (g : Setting) (p : ℕ) (n : Next) (line : List ℕ) → IsLogOf log g → IsReadable g p → IsNext log p n line → ((q : ℕ) × (e : ℕ) × (n ≡ Long q e)) ⊎ ((q : ℕ) × (n ≡ End q)) → at g.clicks p ≡ None
 none_taken log g p n line is readable next (inl long) =
-    let here = subst (λ (x : Next). IsNext log p x line) long.2 next in
-    absurd (no_long log g p here.1.0 here.1.1 is readable here.1.4 here.1.3 here.1.2)
-none_taken log g p n line is readable next (inr end_) =
-    let here = subst (λ (x : Next). IsNext log p x line) end_.1 next in
-    end_found log g p is readable here.1
+    let here = (subst (λ (x : Next). IsNext log p x line) long.2 next).1 in
+    let c = line_found log g p (p + length here.0 + 1) here.0 here.1 is readable refl here.3 here.2 in
+    absurd (click_right here.0 c.0 why.TooLong c.1 c.2 (inl (λ le. absurd (omega (arith, le, here.4)), refl)))
+none_taken log g p n line is readable next (inr end_) = ⊎_elim starts (λ at_end. none at_end (at g.clicks p) refl) (here g p (lines_follow log g.clicks is.lines).0 readable)
+  where
+    starts : (l : ClickLine) × Mem l g.clicks × (l.place ≡ p) → at g.clicks p ≡ None
+    starts m =
+        let s = start_of log g p m.0 is m.1 m.2 in
+        let lacks = (subst (λ (x : Next). IsNext log p x line) end_.1 next).1 in
+        absurd (lacks_none line_feed (click_line m.0.click) s.rest (subst (λ (b : List ℕ). Lacks line_feed b) s.bytes lacks))
+
+    none : p ≡ end_from 0 g.clicks → (o : Option ClickLine) → at g.clicks p ≡ o → o ≡ None
+    none at_end None e = refl
+    none at_end (Some l) e =
+        let m = at_mem g.clicks p l e in
+        let lt = within_end g.clicks 0 l (lines_follow log g.clicks is.lines).0 m.0 in
+        absurd (omega (arith, lt, m.1, at_end))

@@ -1,7 +1,6 @@
 -- What a dispatcher knows fits what its disks keep, so they take the note of each of its rows.
-use Rattle.std.specs.Prelude.{◌≡◌, ℕ, ◌<◌, ◌≤◌, true, false, List, [], ◌∷◌, Option, Some, None, ⊤}
-use Rattle.dispatch_node.specs.Terms.{DispatcherKept, DispatcherLive, Fresh, Note, has, waits}
-use Rattle.turn_defs.specs.Turns.{Advance, Park, Settle}
+use Rattle.std.specs.Prelude.{◌≡◌, ℕ, ◌<◌, ◌≤◌, true, false, List, [], ◌∷◌}
+use Rattle.dispatch_node.specs.Terms.{DispatcherKept, DispatcherLive, Fresh, has, waits}
 
 -- from the place a on the entries follow one another, none of them empty, and the last ends at or before z
 abbrev pub AreInOrder : ℕ → List Fresh → ℕ → Type 0
@@ -14,11 +13,3 @@ pub record Follows (k : DispatcherKept) (l : DispatcherLive) : Type 0 where
   pub waiting : (p : ℕ) → waits l.fresh p ≡ true → has k.pending p ≡ false
   pub due : (p : ℕ) → has l.due p ≡ true → has k.pending p ≡ true
   pub trying : (p : ℕ) → has l.trying p ≡ true → has k.pending p ≡ true
-
--- the disks take the note of a row, if it has one
-abbrev pub IsRowTaken : DispatcherKept → Option Note → Type 0
-IsRowTaken k None = ⊤
-IsRowTaken k (Some (Advance e)) = k.offset < e
-IsRowTaken k (Some (Park p)) = has k.pending p ≡ false
-IsRowTaken k (Some (Settle p)) = has k.pending p ≡ true
-IsRowTaken k (Some _) = ⊥

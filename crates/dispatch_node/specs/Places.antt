@@ -1,8 +1,6 @@
 -- The places of the click log that a dispatcher keeps and knows: of each it can read what stands there.
 use Rattle.std.specs.Prelude.{◌≡◌, ◌⊎◌, ℕ, ◌≤◌, true, List, length, Some}
-use Rattle.dispatch_node.specs.Terms.{DispatcherKept, DispatcherLive, Each, Fresh, Setting, has}
-use Rattle.log_records.specs.declared.check.TheConstants.{MAX_LOG}
-use Rattle.log_records.specs.Lines.{ClickLine, at, HoldsLines, IsBoundary}
+use Rattle.dispatch_node.specs.Terms.{DispatcherKept, DispatcherLive, Each, Fresh, Setting, has, MAX_LOG, ClickLine, at, HoldsLines, IsBoundary}
 
 -- the log was checked, and its lines are the setting's clicks
 pub record IsLogOf (log : List ℕ) (g : Setting) : Type 0 where

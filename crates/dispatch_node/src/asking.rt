@@ -1,41 +1,40 @@
 // What a turn takes, with what its node looks up for it.
 ghost use Rattle.std.specs.Prelude.{◌≡◌, Option, IfOk, IfErr, IsTrue};
-ghost use Rattle.dispatch_node.specs.Terms.{Carries, DispatcherKept, DispatcherLive, IsReadFault, Setting, Stands, Takes, is_read_fault, tallied};
+ghost use Rattle.dispatch_node.specs.Terms.{Carries, DispatcherKept, DispatcherLive, IsReadFault, Numbered, Setting, Stands, Takes, is_read_fault, tallied};
 ghost use Rattle.turn_defs.specs.declared.node.Input.TheVariants as asked;
 ghost use Rattle.dispatch_core.specs.Spelled.{IsTaken};
-ghost use Rattle.dispatch_node.specs.Kept.{kept_as};
-ghost use Rattle.dispatch_node.specs.Node.{IsAsked, Knows};
+ghost use Rattle.site_node.specs.States.{Fits};
+ghost use Rattle.dispatch_node.specs.Dispatchers.{Knows, known};
 ghost use Rattle.dispatch_node.specs.Places.{AreLivePlaces, IsLogOf};
 
 use crate::clicks::Clicks;
-use crate::journals::Journals;
+use crate::dispatcher::HeldPlaces;
 use dispatch_core::{DispatchCore, DispatchInput};
-use outside::{Disk, LogFile};
+use outside::LogFile;
 use site_node::NodeFault;
 use turn_defs::Input;
 
-// A Start takes what the journals keep; an Own the click or the line that its row needs, if any; a Tick the clicks of the
+// A Start takes what the disks hold; an Own the click or the line that its row needs, if any; a Tick the clicks of the
 // positions in trial.
-pub(crate) fn look_up<D: Disk, L: LogFile>(
+pub(crate) fn look_up<L: LogFile>(
     core: &DispatchCore,
-    journals: &Journals<D>,
+    held: &HeldPlaces,
     clicks: &mut Clicks<L>,
     input: Input,
 ) -> Result<DispatchInput, NodeFault>
     ensures taken { IfOk result IsTaken }
-    ensures carries { IsTrue L.tells → (g : Setting) (k : DispatcherKept) (live : Option DispatcherLive) (l : DispatcherLive) →
-        IsLogOf (L.bytes clicks.old.tail.log) g → kept_as journals.now.offset.value.offset journals.now.retry.value.pending.keys ≡ k →
-        g.config ≡ core.now.dealer.config → Knows g core.now k live → IsAsked live input l →
-        IfOk result (λ taken. Takes g core.now k l taken × Carries g k l taken input) }
+    ensures carries { IsTrue L.tells → (g : Setting) (k : Numbered DispatcherKept) (live : Option DispatcherLive) →
+        Knows core.now (L.bytes clicks.old.tail.log) held.now g k live → Fits live input →
+        IfOk result (λ taken. Takes g core.now k.disk (known core.now live) taken × Carries g k.disk (known core.now live) taken input) }
     ensures same { IsTrue L.tells → L.bytes clicks.new.tail.log ≡ L.bytes clicks.old.tail.log }
     ensures fault { IfErr result IsReadFault }
     ensures tally { L.faults clicks.new.tail.log ≡ tallied (L.faults clicks.old.tail.log) (is_read_fault result) }
 {
     match input {
         Input::Start => {
-            let pending = journals.pending()?;
+            let pending = Vec::from_slice(clicks.alloc, &held.pending)?;
             Ok(DispatchInput::Start {
-                offset: journals.offset(),
+                offset: held.offset,
                 pending,
             })
         }

@@ -1,9 +1,6 @@
 // The click log, of which a line is read where it is needed.
 ghost use Rattle.std.specs.Prelude.{◌≡◌, ◌++◌, ◌∷◌, [], ℕ, List, All, Some, true, IfOk, IfErr, IfSome, OnOk, IsTrue};
-ghost use Rattle.dispatch_node.specs.Terms.{AreClicksAt, IsLineAt, IsReadFault, Setting, click_at, has, is_read_fault, tallied};
-ghost use Rattle.tail_reader.specs.Next.{IsNext};
-ghost use Rattle.log_records.specs.Line.{IsClick, click_line};
-ghost use Rattle.log_records.specs.declared.records.ClickRec.{ClickRec as Click};
+ghost use Rattle.dispatch_node.specs.Terms.{AreClicksAt, IsLineAt, IsReadFault, Setting, click_at, has, is_read_fault, tallied, IsNext, IsClick, click_line, Click};
 ghost use Rattle.dispatch_node.specs.Places.{IsLogOf, IsReadable, StartsAt};
 
 use dispatch_core::TakenLine;
@@ -17,7 +14,7 @@ use tail_reader::{Next, Tail};
 #[derive(Drop)]
 pub(crate) struct Clicks<L: LogFile> {
     tail: Tail<L>,
-    alloc: Global,
+    pub(crate) alloc: Global,
 }
 
 impl<L: LogFile> Clicks<L> {
@@ -133,6 +130,7 @@ impl<L: LogFile> Clicks<L> {
     }
 
     // One click more, where a line starts at the position.
+    #[tactic(auto, using(crate::proofs::Carried::clicks_more, crate::proofs::Carried::pushed_items))]
     fn put_click(&mut self, position: u64, clicks: &mut Vec<ClickRec>) -> Result<(), NodeFault>
         ensures click { IsTrue L.tells → (g : Setting) (before : List ℕ) → IsLogOf (L.bytes self.old.tail.log) g → StartsAt g position →
             AreClicksAt g before clicks.old.items → OnOk result (AreClicksAt g (before ++ position ∷ []) clicks.new.items) }

@@ -1,155 +1,66 @@
 // The records of a dispatcher on its two disks.
-ghost use Rattle.std.specs.Prelude.{◌≡◌, ◌⊎◌, ◌≤◌, ℕ, List, Option, true, false, is_err, option_map, IfOk, IfErr, OnOk, OnErr, IsTrue};
-ghost use Rattle.dispatch_node.specs.Terms.{Continues, HasFailed, IsOfRestart, IsWhole, MeetsBoth, MeetsPlan, Note, Ready, Rose, Throughout, of_two, spare, told, was_shut_out};
-ghost use Rattle.gate_journal.specs.Opening.{IsOpened};
-ghost use Rattle.offset_journal.specs.Offsets as offsets;
-ghost use Rattle.retry_log.specs.Pending as pending;
-ghost use Rattle.dispatch_node.specs.Kept.{kept_as, landed, takes_note, takes_or_none, HasRoomFor};
-ghost use Rattle.dispatch_node.specs.Node.{IsRecorded, IsTakenBy, IsRoomFor};
+ghost use Rattle.std.specs.Prelude.{◌≡◌, ◌≤◌, Some, true, false, is_err, IfOk, IfErr, OnOk, OnErr, IsTrue, List, ℕ};
+ghost use Rattle.dispatch_node.specs.Terms.{DispatchNote, DispatcherKept, HasFailed, IsKept, IsOfRestart, IsWhole, Numbered, Rose, land_dispatcher, told, was_shut_out};
 
-use crate::notes::payload_of;
+use crate::dispatcher::{Dispatcher, HeldPlaces, PlacesKept};
+use crate::notes::FramedNote;
 use air_bus::Payload;
 use dispatch_core::DispatchNote;
 use gate_journal::AppendFault;
 use offset_journal::{OffsetJournal, offset_record};
-use outside::Disk;
+use outside::{Disk, LogFile};
 use retry_log::{Change, RetryLog, change_record};
-use site_node::{NodeDisk, NodeFault, fault_of};
+use site_node::{NodeDisk, NodeFault, Records, fault_of};
 use std::alloc::{AllocError, Global};
 
-// The offset on one disk, and the pending positions on another. A note is written to one of them alone.
+/// The offset on one disk, and the pending positions on another. A note is written to one of them alone.
 #[derive(Drop)]
-pub(crate) struct Journals<D: Disk> {
+pub struct Journals<D: Disk> {
     pub(crate) offset: OffsetJournal<D>,
     pub(crate) retry: RetryLog<D>,
-    pub(crate) alloc: Global,
+    // The note of the last append that failed.
+    pub(crate) in_doubt: Option<DispatchNote>,
 }
 
 impl<D: Disk> Journals<D> {
-    pub(crate) fn offset(&self) -> u64
-        ensures { result ≡ self.now.offset.value.offset }
-    {
-        self.offset.value().offset()
-    }
+    ghost use Rattle.dispatch_node.specs.Kept.{takes_note};
+    ghost use Rattle.dispatch_node.specs.Journals.{Doubts, HasRoomFor, IsCalm, IsFound, IsOpenedAgain, IsWritten, MayWrite, Meets, are_ready, disk_faults, faults, kept};
 
-    // A copy of the pending positions, in the order of parking.
-    pub(crate) fn pending(&self) -> Result<Vec<u64>, AllocError>
-        ensures { IfOk result (λ positions. positions.items ≡ self.now.retry.value.pending.keys) }
+    // The offset, and a copy of the pending positions in the order of parking.
+    #[tactic(auto, using(crate::proofs::Disks::distinct_of))]
+    pub(crate) fn held(&self, alloc: Global) -> Result<HeldPlaces, AllocError>
+        ensures { IfOk result (λ held. IsKept (kept self.now) held.offset held.pending.items) }
     {
-        Vec::from_slice(self.alloc, self.retry.value().pending().as_slice())
-    }
-
-    // The disks, that of the offset first.
-    pub(crate) fn into_disks(self) -> (D, D)
-        ensures offset { result.0 ≡ self.offset.journal.disk }
-        ensures retry { result.1 ≡ self.retry.journal.disk }
-    {
-        let Journals {
-            offset,
-            retry,
-            alloc: _,
-        } = self;
-        (offset.into_disk(), retry.into_disk())
-    }
-
-    // Whether the note can be written: an offset above the kept one, a position that isn't pending to be parked, one that
-    // is to be settled. Constant expected time.
-    pub(crate) fn takes(&self, note: DispatchNote) -> bool
-        ensures { result ≡ takes_note (kept_as self.now.offset.value.offset self.now.retry.value.pending.keys) note }
-    {
-        match note {
-            DispatchNote::Advance(end) => self.offset.value().offset() < end,
-            DispatchNote::Park(position) => !self.retry.value().pending().contains(&position),
-            DispatchNote::Settle(position) => self.retry.value().pending().contains(&position),
-        }
-    }
-
-    // The same where there may be no note, which is taken.
-    pub(crate) fn takes_any(&self, note: Option<DispatchNote>) -> bool
-        ensures { result ≡ takes_or_none (kept_as self.now.offset.value.offset self.now.retry.value.pending.keys) note }
-    {
-        match note {
-            None => true,
-            Some(note) => self.takes(note),
-        }
+        let pending = Vec::from_slice(alloc, self.retry.value().pending().as_slice())?;
+        Ok(HeldPlaces {
+            offset: self.offset.value().offset(),
+            pending,
+        })
     }
 
     // Room for the note, on its disk.
-    pub(crate) fn make_room(&mut self, note: DispatchNote) -> Result<(), AllocError>
-        ensures room { OnOk result (HasRoomFor note (D.calls_left self.new.offset.journal.disk) (D.bytes_left self.new.offset.journal.disk)
-            (D.calls_left self.new.retry.journal.disk) (D.bytes_left self.new.retry.journal.disk) (spare self.new.retry.value.pending)) }
-        ensures kept { kept_as self.new.offset.value.offset self.new.retry.value.pending.keys
-            ≡ kept_as self.old.offset.value.offset self.old.retry.value.pending.keys }
-        ensures states { (self.new.offset.journal.state ≡ self.old.offset.journal.state)
-            × (self.new.retry.journal.state ≡ self.old.retry.journal.state) }
-        ensures offset_at_any_moment { IsTrue D.tells → Throughout D.image D.since self.old.offset.journal.disk self.new.offset.journal.disk
-            (D.image self.old.offset.journal.disk) }
-        ensures retry_at_any_moment { IsTrue D.tells → Throughout D.image D.since self.old.retry.journal.disk self.new.retry.journal.disk
-            (D.image self.old.retry.journal.disk) }
-        ensures offset_plan { IsTrue D.tells → MeetsPlan D.stops D.made D.faults 0 false self.old.offset.journal.disk self.new.offset.journal.disk }
-        ensures retry_plan { IsTrue D.tells → MeetsPlan D.stops D.made D.faults 0 false self.old.retry.journal.disk self.new.retry.journal.disk }
-        ensures counts { (D.faults self.new.offset.journal.disk ≡ D.faults self.old.offset.journal.disk)
-            × (D.faults self.new.retry.journal.disk ≡ D.faults self.old.retry.journal.disk) }
+    fn make_room(&mut self, alloc: Global, note: DispatchNote) -> Result<(), AllocError>
+        ensures room { OnOk result (HasRoomFor self.new note) }
+        ensures same { (are_ready self.new ≡ are_ready self.old) × (kept self.new ≡ kept self.old) }
+        ensures calm { IsTrue D.tells → IsCalm self.old self.new }
+        ensures plan { IsTrue D.tells → Meets false self.old self.new }
+        ensures count { faults self.new ≡ faults self.old }
     {
         match note {
-            DispatchNote::Advance(_) => self.offset.make_room(self.alloc),
-            DispatchNote::Park(_) | DispatchNote::Settle(_) => self.retry.make_room(self.alloc),
+            DispatchNote::Advance(_) => self.offset.make_room(alloc),
+            DispatchNote::Park(_) | DispatchNote::Settle(_) => self.retry.make_room(alloc),
         }
     }
 
-    // The note with its record, and room for it on its disk.
-    pub(crate) fn write_down(
-        &mut self,
-        note: Option<DispatchNote>,
-    ) -> Result<Option<(DispatchNote, Payload)>, AllocError>
-        requires { takes_or_none (kept_as self.old.offset.value.offset self.old.retry.value.pending.keys) note ≡ true }
-        ensures recorded { (n : Option Note) → option_map told note ≡ n → IfOk result (IsRecorded n) }
-        ensures takes { IfOk result (IsTakenBy (kept_as self.new.offset.value.offset self.new.retry.value.pending.keys)) }
-        ensures room { IfOk result (λ written. IsRoomFor written
-            (D.calls_left self.new.offset.journal.disk) (D.bytes_left self.new.offset.journal.disk)
-            (D.calls_left self.new.retry.journal.disk) (D.bytes_left self.new.retry.journal.disk) (spare self.new.retry.value.pending)) }
-        ensures kept { kept_as self.new.offset.value.offset self.new.retry.value.pending.keys
-            ≡ kept_as self.old.offset.value.offset self.old.retry.value.pending.keys }
-        ensures states { (self.new.offset.journal.state ≡ self.old.offset.journal.state)
-            × (self.new.retry.journal.state ≡ self.old.retry.journal.state) }
-        ensures offset_at_any_moment { IsTrue D.tells → Throughout D.image D.since self.old.offset.journal.disk self.new.offset.journal.disk
-            (D.image self.old.offset.journal.disk) }
-        ensures retry_at_any_moment { IsTrue D.tells → Throughout D.image D.since self.old.retry.journal.disk self.new.retry.journal.disk
-            (D.image self.old.retry.journal.disk) }
-        ensures offset_plan { IsTrue D.tells → MeetsPlan D.stops D.made D.faults 0 false self.old.offset.journal.disk self.new.offset.journal.disk }
-        ensures retry_plan { IsTrue D.tells → MeetsPlan D.stops D.made D.faults 0 false self.old.retry.journal.disk self.new.retry.journal.disk }
-        ensures counts { (D.faults self.new.offset.journal.disk ≡ D.faults self.old.offset.journal.disk)
-            × (D.faults self.new.retry.journal.disk ≡ D.faults self.old.retry.journal.disk) }
-    {
-        let Some(note) = note else {
-            return Ok(None);
-        };
-        let record = payload_of(self.alloc, note)?;
-        self.make_room(note)?;
-        Ok(Some((note, record)))
-    }
-
     // Writes the note to its disk. It takes no memory.
-    pub(crate) fn append(&mut self, note: DispatchNote) -> Result<(), AppendFault>
-        requires ready { (self.old.offset.journal.state ≡ Ready) × (self.old.retry.journal.state ≡ Ready) }
-        requires takes { takes_note (kept_as self.old.offset.value.offset self.old.retry.value.pending.keys) note ≡ true }
-        requires room { HasRoomFor note (D.calls_left self.old.offset.journal.disk) (D.bytes_left self.old.offset.journal.disk)
-            (D.calls_left self.old.retry.journal.disk) (D.bytes_left self.old.retry.journal.disk) (spare self.old.retry.value.pending) }
-        ensures kept { OnOk result (kept_as self.new.offset.value.offset self.new.retry.value.pending.keys
-            ≡ landed note (kept_as self.old.offset.value.offset self.old.retry.value.pending.keys)) }
-        ensures ready { OnOk result ((self.new.offset.journal.state ≡ Ready) × (self.new.retry.journal.state ≡ Ready)) }
-        ensures offset_at_any_moment { IsTrue D.tells → Throughout D.image D.since self.old.offset.journal.disk self.new.offset.journal.disk
-            (offsets.KeepsOr self.old.offset.value.offset (landed note (kept_as self.old.offset.value.offset self.old.retry.value.pending.keys)).offset) }
-        ensures retry_at_any_moment { IsTrue D.tells → Throughout D.image D.since self.old.retry.journal.disk self.new.retry.journal.disk
-            (pending.KeepsOr self.old.retry.value.pending.keys (landed note (kept_as self.old.offset.value.offset self.old.retry.value.pending.keys)).pending) }
-        ensures offset_grows { IsTrue D.tells → (c : List ℕ) → D.image self.new.offset.journal.disk c → Continues (D.image self.old.offset.journal.disk) c }
-        ensures retry_grows { IsTrue D.tells → (c : List ℕ) → D.image self.new.retry.journal.disk c → Continues (D.image self.old.retry.journal.disk) c }
-        ensures fault { OnErr result (Rose (D.faults self.old.offset.journal.disk) (D.faults self.new.offset.journal.disk)
-            ⊎ Rose (D.faults self.old.retry.journal.disk) (D.faults self.new.retry.journal.disk)) }
-        ensures plan { IsTrue D.tells → MeetsBoth D.stops D.made D.faults (is_err result)
-            self.old.offset.journal.disk self.old.retry.journal.disk self.new.offset.journal.disk self.new.retry.journal.disk }
-        ensures counts { (D.faults self.old.offset.journal.disk ≤ D.faults self.new.offset.journal.disk)
-            × (D.faults self.old.retry.journal.disk ≤ D.faults self.new.retry.journal.disk) }
+    #[tactic(auto, using(crate::proofs::Disks::settled, crate::proofs::Disks::none_parked, crate::proofs::Disks::pending_has))]
+    fn write(&mut self, note: DispatchNote) -> Result<(), AppendFault>
+        requires { MayWrite self.old note }
+        ensures kept { OnOk result ((are_ready self.new ≡ true) × (kept self.new ≡ land_dispatcher (told note) (kept self.old))) }
+        ensures written { IsTrue D.tells → IsWritten self.old self.new (told note) }
+        ensures fault { OnErr result (Rose (faults self.old) (faults self.new)) }
+        ensures plan { IsTrue D.tells → Meets (is_err result) self.old self.new }
+        ensures count { faults self.old ≤ faults self.new }
     {
         match note {
             DispatchNote::Advance(end) => self.offset.append(&offset_record(end), end),
@@ -165,37 +76,112 @@ impl<D: Disk> Journals<D> {
     }
 
     // Reads both disks as a stop left them. Linear in the files.
-    pub(crate) fn reopen(&mut self) -> Result<(), NodeFault>
-        ensures ready { OnOk result ((self.new.offset.journal.state ≡ Ready) × (self.new.retry.journal.state ≡ Ready)) }
-        ensures left { IsTrue D.tells → OnOk result (offsets.IsLeft (D.image self.old.offset.journal.disk) self.new.offset.value.offset
-            × pending.IsLeft (D.image self.old.retry.journal.disk) self.new.retry.value.pending.keys) }
-        ensures offset_at_any_moment { IsTrue D.tells → Throughout D.image D.since self.old.offset.journal.disk self.new.offset.journal.disk
-            (IsOpened (D.image self.old.offset.journal.disk)) }
-        ensures retry_at_any_moment { IsTrue D.tells → Throughout D.image D.since self.old.retry.journal.disk self.new.retry.journal.disk
-            (IsOpened (D.image self.old.retry.journal.disk)) }
-        ensures offset_grows { IsTrue D.tells → (c : List ℕ) → D.image self.new.offset.journal.disk c →
-            Continues (D.image self.old.offset.journal.disk) c }
-        ensures retry_grows { IsTrue D.tells → (c : List ℕ) → D.image self.new.retry.journal.disk c →
-            Continues (D.image self.old.retry.journal.disk) c }
-        ensures kind { IfErr result IsOfRestart }
-        ensures failed { IfErr result (HasFailed
-            (of_two (D.faults self.old.offset.journal.disk) (D.faults self.old.retry.journal.disk))
-            (of_two (D.faults self.new.offset.journal.disk) (D.faults self.new.retry.journal.disk))) }
-        ensures plan { IsTrue D.planned → MeetsBoth D.stops D.made D.faults (was_shut_out result)
-            self.old.offset.journal.disk self.old.retry.journal.disk self.new.offset.journal.disk self.new.retry.journal.disk }
-        ensures counts { (D.faults self.old.offset.journal.disk ≤ D.faults self.new.offset.journal.disk)
-            × (D.faults self.old.retry.journal.disk ≤ D.faults self.new.retry.journal.disk) }
-        // Where each image keeps something, nothing is damaged.
-        ensures whole { IsTrue D.tells → ((c : List ℕ) → D.image self.old.offset.journal.disk c → (o : ℕ) × offsets.Keeps o c) →
-            ((c : List ℕ) → D.image self.old.retry.journal.disk c → (ps : List ℕ) × pending.Keeps ps c) → IfErr result IsWhole }
+    fn reopen_both(&mut self, alloc: Global) -> Result<(), NodeFault>
+        ensures ok { OnOk result ((are_ready self.new ≡ true) × (IsTrue D.tells → IsFound self.old self.new)) }
+        ensures opened { IsTrue D.tells → IsOpenedAgain self.old self.new }
+        ensures fault { IfErr result (λ fault. IsOfRestart fault × HasFailed (disk_faults self.old) (disk_faults self.new) fault) }
+        ensures plan { IsTrue D.planned → Meets (was_shut_out result) self.old self.new }
+        ensures whole { IsTrue D.tells → (k with : Numbered DispatcherKept) → Doubts self.old k with → IfErr result IsWhole }
+        ensures count { faults self.old ≤ faults self.new }
     {
-        match self.offset.reopen(self.alloc) {
+        match self.offset.reopen(alloc) {
             Ok(()) => {}
             Err(fault) => return Err(fault_of(NodeDisk::First, fault)),
         }
-        match self.retry.reopen(self.alloc) {
+        match self.retry.reopen(alloc) {
             Ok(()) => Ok(()),
             Err(fault) => Err(fault_of(NodeDisk::Second, fault)),
+        }
+    }
+}
+
+impl<D: Disk, L: LogFile> Records<PlacesKept, Dispatcher<L>> for Journals<D> {
+    ghost use Rattle.dispatch_node.specs.Kept.{OnDisks, takes_note};
+    ghost use Rattle.dispatch_node.specs.Journals.{Doubts, Grows, Holds, Image, IsCalm, MayWrite, Since, StopsLeft, are_ready, calm_stays, calm_still, disk_faults, doubted_images, faults, held_images, kept};
+
+    type Framed = FramedNote;
+
+    ghost tells = { D.tells };
+
+    ghost planned = { D.planned };
+
+    ghost disk_count = { 2 };
+
+    ghost Contents = { List ℕ × List ℕ };
+
+    ghost keeps = { λ k. OnDisks k.disk };
+
+    ghost ready = { are_ready };
+
+    ghost holds = { Holds };
+
+    ghost doubts = { Doubts };
+
+    ghost can_take = { λ j n. takes_note (kept j) n };
+
+    ghost note_in = { λ framed. told framed.note };
+
+    ghost has_room = { λ j framed. MayWrite j framed.note };
+
+    ghost image = { Image };
+
+    ghost since = { Since };
+
+    ghost grown = { Grows };
+
+    ghost calm = { IsCalm };
+
+    ghost faults = { faults };
+
+    ghost disk_faults = { disk_faults };
+
+    ghost stops_left = { StopsLeft };
+
+    ghost held = { λ j k tells. held_images tells j k };
+
+    ghost doubted = { λ j k with tells. doubted_images j k with };
+
+    ghost still = { λ j tells. calm_still (λ disk c. D.starts disk c tells) j };
+
+    ghost stays = { λ old new k tells. calm_stays tells old new k };
+
+    // An offset above the kept one, a position that isn't pending to be parked, one that is to be settled. Constant
+    // expected time.
+    #[tactic(auto, using(dispatch_core::proofs::Sets::any_has))]
+    fn takes(&self, note: &DispatchNote) -> bool {
+        match *note {
+            DispatchNote::Advance(end) => self.offset.value().offset() < end,
+            DispatchNote::Park(position) => !self.retry.value().pending().contains(&position),
+            DispatchNote::Settle(position) => self.retry.value().pending().contains(&position),
+        }
+    }
+
+    fn frame(&mut self, alloc: Global, note: &DispatchNote) -> Result<FramedNote, AllocError> {
+        let framed = FramedNote::new(alloc, *note)?;
+        self.make_room(alloc, *note)?;
+        Ok(framed)
+    }
+
+    fn append(&mut self, framed: FramedNote) -> Result<Payload, Payload> {
+        match self.write(framed.note) {
+            Ok(()) => Ok(framed.bytes),
+            Err(_) => {
+                self.in_doubt = Some(framed.note);
+                Err(framed.bytes)
+            }
+        }
+    }
+
+    fn reopen(&mut self, alloc: Global) -> Result<(HeldPlaces, bool), NodeFault> {
+        self.reopen_both(alloc)?;
+        let held = self.held(alloc)?;
+        // Where the note in doubt is among the records it can't be written again.
+        match &self.in_doubt {
+            Some(note) => {
+                let takes = <Journals<D> as Records<PlacesKept, Dispatcher<L>>>::takes(self, note);
+                Ok((held, !takes))
+            }
+            None => Ok((held, false)),
         }
     }
 }

@@ -3,8 +3,11 @@
 
 mod asking;
 mod clicks;
+mod dispatcher;
 mod journals;
 mod node;
 mod notes;
 
-pub use node::DispatchNode;
+pub use dispatcher::{Dispatcher, HeldPlaces, PlacesKept};
+pub use journals::Journals;
+pub use node::{DispatchNode, dispatch_node, into_disks};

@@ -1,19 +1,13 @@
 -- What a turn of the code says of a row.
-use Rattle.std.proofs.Common.{arith}
-use Rattle.std.proofs.Common.{Result, IfOk, ◌≡◌, ℕ, List, [], ◌∷◌, map, None, option_map, refl, sym, ap, subst, ◌∙◌}
-use Rattle.turn_defs.specs.declared.packet.Packet.{Packet}
-use Rattle.turn_defs.specs.declared.node.Node.{Node}
+use Rattle.std.proofs.Common.{Result, IfOk, ◌≡◌, ℕ, List, [], ◌∷◌, map, None, option_map, refl, sym, ap, subst, ◌∙◌, arith}
+use Rattle.joiner_core.proofs.Words.{Packet, Node, JoinerKept, JoinerLive, Flight, insert_of, claim, joiner_tick, flights, claim_to, Stands, Turn, known, note_of, changed, epoch_after, Answers, Does, row}
 use Rattle.turn_defs.specs.declared.node.Node.TheVariants.{Server}
 use Rattle.turn_defs.specs.declared.node.To.{To}
 use Rattle.turn_defs.specs.declared.node.Input.{Input}
 use Rattle.turn_defs.specs.Setting.{Setting}
 use Rattle.turn_defs.specs.Nodes.{Addressed}
-use Rattle.turn_defs.specs.Joiner.{JoinerKept, JoinerLive, Flight, insert_of, claim, joiner_tick}
 use Rattle.joiner_core.specs.declared.turn.Change.TheVariants.{Stay}
-use Rattle.joiner_core.specs.declared.turn.Turn.{Turn}
 use Rattle.joiner_core.specs.declared.node_core.JoinerCore.{JoinerCore}
-use Rattle.joiner_core.specs.Flying.{flights, claim_to}
-use Rattle.joiner_core.specs.Standing.{Stands, known, note_of, changed, epoch_after, Answers, Does, row}
 
 module _ (core : JoinerCore) (g : Setting) (n : ℕ) (k : JoinerKept) (l : JoinerLive) (s : Stands core g n k l) where
   -- the insert of each flight, to the server

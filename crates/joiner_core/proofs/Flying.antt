@@ -1,21 +1,11 @@
 -- The joins in flight as a list, made of the entries of a map.
-use Rattle.std.proofs.Common.{arith}
-use Rattle.std.proofs.Common.{◌≡◌, ℕ, Bool, true, false, cond, List, [], ◌∷◌, ◌++◌, ◌&&◌, map, Option, Some, None, option_map, is_some, refl, sym, ap, subst, ◌∙◌}
-use Rattle.std.specs.List.{AllByRecursion, IsDistinct, find}
+use Rattle.std.proofs.Common.{◌≡◌, ℕ, Bool, true, false, cond, List, [], ◌∷◌, ◌++◌, ◌&&◌, map, Option, Some, None, option_map, is_some, refl, sym, ap, subst, ◌∙◌, arith}
+use Rattle.joiner_core.proofs.Words.{AllByRecursion, find, shift_remove_entry, EventId, same_id, same_token, Waiting, Flight, in_flight, is_for, landed, flight_of, claim_to, IsHeld, ArePackets}
+use Rattle.std.specs.List.{IsDistinct}
 use Rattle.std.specs.Map.{keys_of, lookup}
-use Rattle.indexmap.specs.IndexMap.{shift_remove_entry}
-use Rattle.event_id.specs.declared.id.EventId.{EventId}
-use Rattle.event_id.specs.EventId.{is_same as same_id}
 use Rattle.registry_state.specs.declared.Insert.{Insert}
-use Rattle.registry_state.specs.Same.{same_token}
 use Rattle.registry_state.proofs.Tests.{same_id-true}
-use Rattle.std.proofs.lemmas.Bool.{true≢false}
 use Rattle.list_words.proofs.Lists.{none_some}
-use Rattle.joiner_core.specs.declared.flights.Waiting.{Waiting}
-use Rattle.turn_defs.specs.Joiner.{Flight, in_flight, is_for, landed}
-use Rattle.joiner_core.specs.Flying.{flight_of, claim_to}
-use Rattle.joiner_core.specs.Held.{IsHeld}
-use Rattle.joiner_core.specs.Spelled.{ArePackets}
 
 abbrev pub flight_at : EventId × Waiting → Flight
 flight_at e = flight_of e.0 e.1
@@ -24,13 +14,13 @@ same_id-sym : (a b : EventId) → same_id a b ≡ same_id b a
 same_id-sym a b = grind arith
 
 -- an id is in flight where it has an entry
-pub in_flight-lookup : (es : List (EventId × Waiting)) (i : EventId) → in_flight (map flight_at es) i ≡ is_some (lookup (same_id i) es)
-in_flight-lookup [] i = refl
-in_flight-lookup (e ∷ es) i = grind (arith, same_id-sym, in_flight-lookup es i)
+pub in_flight_lookup : (es : List (EventId × Waiting)) (i : EventId) → in_flight (map flight_at es) i ≡ is_some (lookup (same_id i) es)
+in_flight_lookup [] i = refl
+in_flight_lookup (e ∷ es) i = grind (arith, same_id-sym, in_flight_lookup es i)
 
-pub flights-push : (es : List (EventId × Waiting)) (e : EventId × Waiting) → map flight_at (es ++ e ∷ []) ≡ map flight_at es ++ flight_at e ∷ []
-flights-push [] e = refl
-flights-push (x ∷ es) e = let h = flights-push es e in λ j. flight_at x ∷ h j
+pub flights_push : (es : List (EventId × Waiting)) (e : EventId × Waiting) → map flight_at (es ++ e ∷ []) ≡ map flight_at es ++ flight_at e ∷ []
+flights_push [] e = refl
+flights_push (x ∷ es) e = let h = flights_push es e in λ j. flight_at x ∷ h j
 
 -- the join of the entry's id, where it is under the token
 abbrev pub held : Insert → Option Waiting → Option Flight
@@ -44,15 +34,15 @@ Lacks i es = AllByRecursion (λ y. same_id i y ≡ false) (keys_of es)
 other : (i k : EventId) (b : Bool) → same_id i k ≡ b → same_id k i ≡ b
 other i k b h = same_id-sym k i ∙ h
 
-find-lacks : (es : List (EventId × Waiting)) (x : Insert) → Lacks x.id es → find (is_for x) (map flight_at es) ≡ None
-find-lacks [] x h = refl
-find-lacks (e ∷ es) x h = ap (λ b. cond (b && same_token e.1.token x.token) (Some (flight_at e)) (find (is_for x) (map flight_at es))) (other x.id e.0 false h.0) ∙ find-lacks es x h.1
+find_lacks : (es : List (EventId × Waiting)) (x : Insert) → Lacks x.id es → find (is_for x) (map flight_at es) ≡ None
+find_lacks [] x h = refl
+find_lacks (e ∷ es) x h = ap (λ b. cond (b && same_token e.1.token x.token) (Some (flight_at e)) (find (is_for x) (map flight_at es))) (other x.id e.0 false h.0) ∙ find_lacks es x h.1
 
 -- where no two keys are one, the join of an id and a token is that of the id's entry
-pub find-lookup : (es : List (EventId × Waiting)) (x : Insert) → IsDistinct same_id (keys_of es) → find (is_for x) (map flight_at es) ≡ held x (lookup (same_id x.id) es)
+pub find_lookup : (es : List (EventId × Waiting)) (x : Insert) → IsDistinct same_id (keys_of es) → find (is_for x) (map flight_at es) ≡ held x (lookup (same_id x.id) es)
 unfolding IsDistinct
-find-lookup [] x d = refl
-find-lookup (e ∷ es) x d = go (same_id x.id e.0) refl (find-lookup es x d.1)
+find_lookup [] x d = refl
+find_lookup (e ∷ es) x d = go (same_id x.id e.0) refl (find_lookup es x d.1)
   where
     go : (b : Bool) → same_id x.id e.0 ≡ b → find (is_for x) (map flight_at es) ≡ held x (lookup (same_id x.id) es)
         → cond (same_id e.0 x.id && same_token e.1.token x.token) (Some (flight_at e)) (find (is_for x) (map flight_at es)) ≡ held x (cond b (Some e.1) (lookup (same_id x.id) es))
@@ -60,25 +50,23 @@ find-lookup (e ∷ es) x d = go (same_id x.id e.0) refl (find-lookup es x d.1)
         let one = same_id-true x.id e.0 p in
         let lacks = subst (λ (i : EventId). Lacks i es) (sym one) d.0 in
         let s = other x.id e.0 true p in
-        let none = find-lacks es x lacks in
+        let none = find_lacks es x lacks in
         λ j. cond (s j && same_token e.1.token x.token) (Some (flight_of (sym one j) e.1)) (none j)
     go false p rec = ap (λ b. cond (b && same_token e.1.token x.token) (Some (flight_at e)) (find (is_for x) (map flight_at es))) (other x.id e.0 false p) ∙ rec
 
 -- what isn't in flight leaves nothing
-pub landed-none : (fs : List Flight) (x : Insert) → find (is_for x) fs ≡ None → landed fs x ≡ fs
-landed-none [] x h = refl
-landed-none (f ∷ fs) x h = grind (arith, landed-none fs x)
+pub landed_none : (fs : List Flight) (x : Insert) → find (is_for x) fs ≡ None → landed fs x ≡ fs
+landed_none [] x h = refl
+landed_none (f ∷ fs) x h = grind (arith, landed_none fs x)
 
 -- what is in flight leaves by its id
-pub landed-some : (es : List (EventId × Waiting)) (x : Insert) → IsDistinct same_id (keys_of es) → is_some (find (is_for x) (map flight_at es)) ≡ true → landed (map flight_at es) x ≡ map flight_at (shift_remove_entry (same_id x.id) es)
+pub landed_some : (es : List (EventId × Waiting)) (x : Insert) → IsDistinct same_id (keys_of es) → is_some (find (is_for x) (map flight_at es)) ≡ true → landed (map flight_at es) x ≡ map flight_at (shift_remove_entry (same_id x.id) es)
 unfolding IsDistinct
-landed-some [] x d h = refl
-landed-some (e ∷ es) x d h = by_id (same_id x.id e.0) refl h (landed-some es x d.1)
+landed_some [] x d h = refl
+landed_some (e ∷ es) x d h = by_id (same_id x.id e.0) refl h (landed_some es x d.1)
   where
     by_token : Lacks x.id es → (b c : Bool) → b ≡ true → is_some (cond (b && c) (Some (flight_at e)) (find (is_for x) (map flight_at es))) ≡ true → cond (b && c) (landed (map flight_at es) x) (flight_at e ∷ landed (map flight_at es) x) ≡ map flight_at es
-    by_token lacks true true p h = landed-none (map flight_at es) x (find-lacks es x lacks)
-    by_token lacks true false p h = absurd (true≢false (sym h ∙ ap is_some (find-lacks es x lacks)))
-    by_token lacks false c p h = absurd (true≢false (sym p))
+    by_token lacks k e p h = grind (arith, landed_none, find_lacks)
 
     by_id : (b : Bool) → same_id x.id e.0 ≡ b → is_some (cond (same_id e.0 x.id && same_token e.1.token x.token) (Some (flight_at e)) (find (is_for x) (map flight_at es))) ≡ true
         → (is_some (find (is_for x) (map flight_at es)) ≡ true → landed (map flight_at es) x ≡ map flight_at (shift_remove_entry (same_id x.id) es))
@@ -86,24 +74,24 @@ landed-some (e ∷ es) x d h = by_id (same_id x.id e.0) refl h (landed-some es x
     by_id true p h rec = by_token (subst (λ (i : EventId). Lacks i es) (sym (same_id-true x.id e.0 p)) d.0) (same_id e.0 x.id) (same_token e.1.token x.token) (other x.id e.0 true p) h
     by_id false p h rec = grind arith
 
-pub is_some-mapped : {A B : Type 0} (f : A → B) (o : Option A) → is_some (option_map f o) ≡ is_some o
-is_some-mapped f h = grind arith
+pub is_some_mapped : {A B : Type 0} (f : A → B) (o : Option A) → is_some (option_map f o) ≡ is_some o
+is_some_mapped f h = grind arith
 
 -- ---- what has spellings
-pub held-push : (es : List (EventId × Waiting)) (e : EventId × Waiting) → AllByRecursion IsHeld es → IsHeld e → AllByRecursion IsHeld (es ++ e ∷ [])
-held-push [] e all h = (h, tt)
-held-push (x ∷ es) e all h = (all.0, held-push es e all.1 h)
+pub held_push : (es : List (EventId × Waiting)) (e : EventId × Waiting) → AllByRecursion IsHeld es → IsHeld e → AllByRecursion IsHeld (es ++ e ∷ [])
+held_push [] e all h = (h, tt)
+held_push (x ∷ es) e all h = (all.0, held_push es e all.1 h)
 
-pub held-removed : (test : EventId → Bool) (es : List (EventId × Waiting)) → AllByRecursion IsHeld es → AllByRecursion IsHeld (shift_remove_entry test es)
-held-removed test [] all = tt
-held-removed test (e ∷ es) all = grind (arith, held-removed test es all.1)
+pub held_removed : (test : EventId → Bool) (es : List (EventId × Waiting)) → AllByRecursion IsHeld es → AllByRecursion IsHeld (shift_remove_entry test es)
+held_removed test [] all = tt
+held_removed test (e ∷ es) all = grind (arith, held_removed test es all.1)
 
 -- the entry of an id that has one
-pub held-lookup : (es : List (EventId × Waiting)) (i : EventId) (w : Waiting) → AllByRecursion IsHeld es → lookup (same_id i) es ≡ Some w → IsHeld (i, w)
-held-lookup [] i w all h = none_some w h
-held-lookup (e ∷ es) i w all h = grind (arith, held-lookup es i w all.1)
+pub held_lookup : (es : List (EventId × Waiting)) (i : EventId) (w : Waiting) → AllByRecursion IsHeld es → lookup (same_id i) es ≡ Some w → IsHeld (i, w)
+held_lookup [] i w all h = none_some w h
+held_lookup (e ∷ es) i w all h = grind (arith, held_lookup es i w all.1)
 
 -- the inserts of what is in flight
-pub held-claims : (site : ℕ) (es : List (EventId × Waiting)) → AllByRecursion IsHeld es → ArePackets (map (claim_to site) (map flight_at es))
-held-claims site [] all = tt
-held-claims site (e ∷ es) all = (record { id = all.0.id; token = all.0.token }, held-claims site es all.1)
+pub held_claims : (site : ℕ) (es : List (EventId × Waiting)) → AllByRecursion IsHeld es → ArePackets (map (claim_to site) (map flight_at es))
+held_claims site [] all = tt
+held_claims site (e ∷ es) all = (record { id = all.0.id; token = all.0.token }, held_claims site es all.1)

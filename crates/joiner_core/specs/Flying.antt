@@ -1,16 +1,9 @@
 -- The joins in flight, as the code holds them.
 use Rattle.std.specs.Prelude.{ℕ, List, map}
-use Rattle.indexmap.specs.IndexMap.{spare}
-use Rattle.event_id.specs.declared.id.EventId.{EventId}
-use Rattle.registry_state.specs.declared.Token.{Token}
+use Rattle.joiner_core.specs.Terms.{spare, EventId, Token, Click, Packet, Node, Server, Flight, insert_of}
 use Rattle.log_records.specs.declared.records.QueryRec.{QueryRec as Query}
-use Rattle.log_records.specs.declared.records.ClickRec.{ClickRec as Click}
-use Rattle.turn_defs.specs.declared.packet.Packet.{Packet}
 use Rattle.turn_defs.specs.declared.packet.Packet.TheVariants.{Insert}
-use Rattle.turn_defs.specs.declared.node.Node.{Node}
-use Rattle.turn_defs.specs.declared.node.Node.TheVariants.{Server}
 use Rattle.turn_defs.specs.declared.pair.PairRec.{PairRec}
-use Rattle.turn_defs.specs.Joiner.{Flight, insert_of}
 use Rattle.joiner_core.specs.declared.flights.Waiting.{Waiting}
 use Rattle.joiner_core.specs.declared.flights.Flights.{Flights}
 

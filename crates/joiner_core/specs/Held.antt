@@ -1,9 +1,6 @@
 -- A join in flight whose parts have spellings.
-use Rattle.event_id.specs.declared.id.EventId.{EventId}
-use Rattle.event_id.specs.EventId.{IsId}
-use Rattle.log_records.specs.Line.{IsQuery}
+use Rattle.joiner_core.specs.Terms.{EventId, IsId, IsQuery, IsNumber, IsToken}
 use Rattle.log_records.specs.Text.{IsText}
-use Rattle.turn_defs.specs.Spellings.{IsNumber, IsToken}
 use Rattle.joiner_core.specs.declared.flights.Waiting.{Waiting}
 
 pub record IsHeld (e : EventId × Waiting) : Type 0 where

@@ -1,21 +1,14 @@
 -- Worked turns of joiner 7, on one click and its query.
 use Rattle.std.specs.Prelude.{◌≡◌, ℕ, ◌-◌, ◌^◌, true, List, [], ◌∷◌, replicate, Some, None}
-use Rattle.log_records.specs.declared.records.ClickRec.{ClickRec as Click}
+use Rattle.joiner_core.specs.Terms.{Click, Packet, Dispatcher, Server, Input, Own, Tick, Deliver, Setting, Epoch, Output, Out, idle, JoinerKept, JoinerLive, Flight, joiner_start, joiner_turn, joiner_unfinished, joiner_at_rest}
 use Rattle.log_records.specs.Rows.{one_query, one_click}
 use Rattle.registry_state.specs.declared.Answer.{Answer}
 use Rattle.registry_state.specs.declared.Answer.TheVariants.{Granted, Duplicate, TooOld}
-use Rattle.turn_defs.specs.declared.packet.Packet.{Packet}
 use Rattle.turn_defs.specs.declared.packet.Packet.TheVariants as packet
 use Rattle.turn_defs.specs.declared.packet.Outcome.TheVariants as outcome
-use Rattle.turn_defs.specs.declared.node.Node.TheVariants.{Dispatcher, Server}
 use Rattle.turn_defs.specs.declared.node.To.{To}
 use Rattle.turn_defs.specs.declared.node.To.TheVariants.{Only}
-use Rattle.turn_defs.specs.declared.node.Input.{Input}
-use Rattle.turn_defs.specs.declared.node.Input.TheVariants.{Own, Tick, Deliver}
-use Rattle.turn_defs.specs.Setting.{Setting}
-use Rattle.turn_defs.specs.Turns.{Epoch, Output, Out, idle}
 use Rattle.turn_defs.specs.Rows.{worked, token, insert}
-use Rattle.turn_defs.specs.Joiner.{JoinerKept, JoinerLive, Flight, joiner_start, joiner_turn, joiner_unfinished, joiner_at_rest}
 
 -- in its first epoch, nothing being written
 abbrev pub kept : JoinerKept

@@ -1,20 +1,9 @@
 -- What a joiner's core stands for, and what a turn of it answers.
-use Rattle.std.specs.Prelude.{◌≡◌, ℕ, suc, ◌-◌, ◌^◌, ◌<◌, Bool, true, false, not, ◌&&◌, nat_lt, List, ◌++◌, [], ◌∷◌, length, Option, Some, None, option_map}
-use Rattle.turn_defs.specs.declared.limits.TheConstants.{MOST_FLIGHTS}
-use Rattle.ballot_core.specs.declared.TheConstants.{LAST_EPOCH}
-use Rattle.event_id.specs.declared.id.EventId.{EventId}
-use Rattle.registry_state.specs.declared.Token.{Token}
-use Rattle.log_records.specs.declared.records.ClickRec.{ClickRec as Click}
+use Rattle.std.specs.Prelude.{◌≡◌, ℕ, suc, ◌-◌, ◌^◌, ◌<◌, ◌≤◌, Bool, true, false, not, ◌&&◌, nat_lt, List, ◌++◌, [], ◌∷◌, length, Option, Some, None, option_map}
+use Rattle.joiner_core.specs.Terms.{MOST_FLIGHTS, LAST_EPOCH, EventId, Token, Click, Packet, Node, Input, Start, Own, Tick, Deliver, Setting, site_of_joiner, Note, Epoch, Output, Out, land, JoinerKept, JoinerLive, land_joiner, in_flight, landed, joiner_start, joiner_turn}
 use Rattle.log_records.specs.Log.{first}
-use Rattle.turn_defs.specs.declared.packet.Packet.{Packet}
 use Rattle.turn_defs.specs.declared.packet.Packet.TheVariants as packet
-use Rattle.turn_defs.specs.declared.node.Node.{Node}
-use Rattle.turn_defs.specs.declared.node.Input.{Input}
-use Rattle.turn_defs.specs.declared.node.Input.TheVariants.{Start, Own, Tick, Deliver}
-use Rattle.turn_defs.specs.Setting.{Setting, site_of_joiner}
 use Rattle.turn_defs.specs.Nodes.{Addressed}
-use Rattle.turn_defs.specs.Turns.{Note, Epoch, Output, Out, land}
-use Rattle.turn_defs.specs.Joiner.{JoinerKept, JoinerLive, land_joiner, in_flight, landed, joiner_start, joiner_turn}
 use Rattle.joiner_core.specs.Flying.{flights, flight_of, room}
 use Rattle.joiner_core.specs.Held.{IsHeld}
 use Rattle.joiner_core.specs.declared.input.Looked.{Looked}
@@ -25,8 +14,11 @@ use Rattle.joiner_core.specs.declared.turn.JoinerNote.{JoinerNote}
 use Rattle.joiner_core.specs.declared.turn.JoinerNote.TheVariants as notes
 use Rattle.joiner_core.specs.declared.turn.Change.{Change}
 use Rattle.joiner_core.specs.declared.turn.Change.TheVariants.{Stay, Begin, Fly, Land}
-use Rattle.joiner_core.specs.declared.turn.Turn.{Turn}
+use Rattle.site_node.specs.declared.deciding.Turn.{Turn as Decision}
 use Rattle.joiner_core.specs.declared.node_core.JoinerCore.{JoinerCore}
+
+abbrev pub Turn : Type 0
+Turn = Decision JoinerNote Change
 
 -- its numbers are those of the setting's joiner n
 pub record Serves (core : JoinerCore) (g : Setting) (n : ℕ) : Type 0 where
@@ -85,9 +77,7 @@ CanStart _ = Unit {0}
 -- the row for an input
 abbrev pub row : Setting → ℕ → JoinerKept → JoinerLive → Input → Out JoinerLive
 row g n k l Start = joiner_start k
-row g n k l Own = joiner_turn g n k l Own
-row g n k l Tick = joiner_turn g n k l Tick
-row g n k l (Deliver from p) = joiner_turn g n k l (Deliver from p)
+row g n k l i = joiner_turn g n k l i
 
 -- the note as a disk has it
 abbrev pub note_of : JoinerNote → Note
@@ -103,34 +93,27 @@ changed (Land x) l = record l { flight = landed l.flight x }
 
 abbrev pub epoch_after : Change → ℕ → ℕ
 epoch_after (Begin e) old = e
-epoch_after Stay old = old
-epoch_after (Fly id w) old = old
-epoch_after (Land x) old = old
+epoch_after _ old = old
 
 -- the core can make the change: there are room, a place and a number for a new flight, whose parts have spellings
 abbrev pub CanChange : JoinerCore → Change → Type 0
 CanChange core (Fly id w) =
     (0 < room core.flights) × (length (flights core.flights) < MOST_FLIGHTS) × (in_flight (flights core.flights) id ≡ false)
     × (core.number < 2 ^ 64 - 1) × IsHeld (id, w)
-CanChange core Stay = Unit {0}
-CanChange core (Begin e) = e < 2 ^ 32
-CanChange core (Land x) = Unit {0}
+CanChange core (Begin e) = e ≤ LAST_EPOCH
+CanChange core _ = Unit {0}
 
--- the core can keep the turn
-abbrev pub Fits : JoinerCore → Turn → Type 0
-Fits core t = CanChange core t.change
-
--- once the turn is kept, the core stands for the joiner n that keeps k and knows l
-pub record Leads (core : JoinerCore) (t : Turn) (g : Setting) (n : ℕ) (k : JoinerKept) (l : JoinerLive) : Type 0 where
+-- once the change is made, the core stands for the joiner n that keeps k and knows l
+pub record Leads (core : JoinerCore) (change : Change) (g : Setting) (n : ℕ) (k : JoinerKept) (l : JoinerLive) : Type 0 where
   pub serves : Serves core g n
-  pub epoch : epoch_after t.change core.epoch ≡ k.epoch
-  pub live : changed t.change (known core) ≡ l
+  pub epoch : epoch_after change core.epoch ≡ k.epoch
+  pub live : changed change (known core) ≡ l
 
 -- the turn is the row: its note and its packets, and once its note is written and it is kept, what is kept and known then
 pub record Answers (core : JoinerCore) (g : Setting) (n : ℕ) (k : JoinerKept) (out : Out JoinerLive) (t : Turn) : Type 0 where
   pub note : option_map note_of t.note ≡ out.note
   pub packets : Addressed g out.packets t.packets.items
-  pub next : Leads core t g n (land land_joiner out.note k) out.live
+  pub next : Leads core t.change g n (land land_joiner out.note k) out.live
 
 -- the turn has this note, these packets and this change
 pub record Does (t : Turn) (written : Option JoinerNote) (sent : List (Node × Packet)) (made : Change) : Type 0 where

@@ -1,10 +1,7 @@
 // The joins in flight, by their clicks' ids.
-ghost use Rattle.std.specs.Prelude.{◌≤◌};
-ghost use Rattle.turn_defs.specs.declared.limits.TheConstants.{MOST_FLIGHTS};
-ghost use Rattle.indexmap.specs.IndexMap.{IsUnique, index_map_len};
-ghost use Rattle.event_id.specs.EventId.{is_same as same_id};
+ghost use Rattle.std.specs.Prelude.{◌≤◌, ◌≡◌, ◌++◌, ◌∷◌, [], ◌<◌, ◌==◌, false, length, map, find, IfOk, OnOk, IfSome};
+ghost use Rattle.joiner_core.specs.Terms.{MOST_FLIGHTS, IsUnique, index_map_len, same_id, AllByRecursion, AllByRecursion-prop, in_flight, landed, is_for};
 ghost use Rattle.std.proofs.Props.{props};
-ghost use Rattle.std.specs.List.{AllByRecursion, AllByRecursion-prop};
 ghost use Rattle.joiner_core.specs.Held.{IsHeld};
 
 use event_id::EventId;
@@ -37,9 +34,7 @@ pub struct Flights {
 }
 
 impl Flights {
-    ghost use Rattle.std.specs.Prelude.{◌≡◌, ◌++◌, ◌∷◌, [], ◌<◌, ◌==◌, false, length, map, find, IfOk, OnOk, IfSome};
     ghost use Rattle.std.specs.Option.{option_map};
-    ghost use Rattle.turn_defs.specs.Joiner.{in_flight, landed, is_for};
     ghost use Rattle.joiner_core.specs.Flying.{flights, flight_of, room, claim_to};
     ghost use Rattle.joiner_core.specs.Spelled.{ArePackets};
 
@@ -60,6 +55,7 @@ impl Flights {
     }
 
     /// Whether a join of the click is in flight, in constant expected time.
+    #[tactic(auto, using(crate::proofs::Flying::in_flight_lookup))]
     pub fn has(&self, id: EventId) -> bool
         ensures { result ≡ in_flight (flights self.now) id }
     {
@@ -67,6 +63,7 @@ impl Flights {
     }
 
     /// The join that registers this id under this token, in constant expected time.
+    #[tactic(auto, using(crate::proofs::Flying::find_lookup))]
     pub fn find(&self, insert: Insert) -> Option<&Waiting>
         ensures found { option_map (λ w. flight_of insert.id w.now) result ≡ find (is_for insert) (flights self.now) }
         ensures held { IfSome result (λ w. IsHeld (insert.id, w.now)) }
@@ -102,6 +99,7 @@ impl Flights {
 
     /// Takes out the one that registers this id under this token, if any. It takes no memory, and moves up those behind
     /// it, at most 31.
+    #[tactic(auto, using(crate::proofs::Flying::landed_some, crate::proofs::Flying::landed_none, crate::proofs::Flying::is_some_mapped, crate::proofs::Flying::held_removed))]
     pub fn land(&mut self, insert: Insert)
         ensures { flights self.new ≡ landed (flights self.old) insert }
     {

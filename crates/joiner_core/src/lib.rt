@@ -12,4 +12,4 @@ mod turn;
 
 pub use input::{JoinerInput, Looked};
 pub use node_core::JoinerCore;
-pub use turn::{JoinerNote, Turn};
+pub use turn::{Change, JoinerNote, Turn};

@@ -1,11 +1,9 @@
 // The joiner's core.
-ghost use Rattle.std.specs.Prelude.{◌<◌, ◌^◌};
-ghost use Rattle.turn_defs.specs.declared.limits.TheConstants.{MOST_FLIGHTS};
-ghost use Rattle.ballot_core.specs.declared.TheConstants.{LAST_EPOCH};
+ghost use Rattle.std.specs.Prelude.{◌<◌, ◌≤◌, ◌^◌, ◌≡◌, ◌∷◌, [], ◌+◌, ◌-◌, true, false, length, map, find, IfOk, IfSome, Option, Some, None};
+ghost use Rattle.joiner_core.specs.Terms.{MOST_FLIGHTS, LAST_EPOCH, Dispatcher, Server, site_of_joiner, in_flight, is_for, joins, looks, replied, joiner_gets, joiner_wants, joiner_unfinished, joiner_at_rest, IsQuery, IsClick, IsNumber, IsToken, IsAnswer, IsPacket, IsOutcome, IsPair};
 
 use crate::flights::{Flights, Waiting};
-use crate::turn::Change;
-use crate::{JoinerInput, JoinerNote, Looked, Turn};
+use crate::{Change, JoinerInput, JoinerNote, Looked, Turn};
 use event_id::EventId;
 use log_records::{ClickRec, QueryRec};
 use registry_state::{Answer, Insert, Token};
@@ -26,26 +24,18 @@ pub struct JoinerCore {
     alloc: Global,
     // So its tokens have spellings.
     ghost node_fits: { node < 2 ^ 16 },
-    ghost epoch_fits: { epoch < 2 ^ 32 },
+    ghost epoch_fits: { epoch ≤ LAST_EPOCH },
     ghost number_fits: { number < 2 ^ 64 },
 }
 
 impl JoinerCore {
-    ghost use Rattle.std.specs.Prelude.{◌≡◌, ◌∷◌, [], ◌+◌, ◌-◌, ◌^◌, ◌<◌, true, false, length, map, find, IfOk, Option, Some, None};
-    ghost use Rattle.turn_defs.specs.declared.node.Node.TheVariants.{Dispatcher, Server};
     ghost use Rattle.turn_defs.specs.declared.packet.Packet.TheVariants as packet;
-    ghost use Rattle.turn_defs.specs.Setting.{site_of_joiner};
-    ghost use Rattle.turn_defs.specs.Joiner.{in_flight, is_for, joins, looks, replied, joiner_gets, joiner_wants, joiner_unfinished, joiner_at_rest};
     ghost use Rattle.joiner_core.specs.declared.turn.JoinerNote.TheVariants.{Epoch, Pair};
     ghost use Rattle.joiner_core.specs.declared.turn.Change.TheVariants.{Stay, Begin, Fly, Land};
     ghost use Rattle.joiner_core.specs.Flying.{flights, flight_of, room, waiting_of, claim_to, pair_of};
-    ghost use Rattle.log_records.specs.Line.{IsQuery, IsClick};
-    ghost use Rattle.turn_defs.specs.Spellings.{IsNumber, IsToken, IsAnswer};
-    ghost use Rattle.turn_defs.specs.Packets.{IsPacket, IsOutcome};
-    ghost use Rattle.turn_defs.specs.Spellings.{IsPair};
     ghost use Rattle.joiner_core.specs.Held.{IsHeld};
     ghost use Rattle.joiner_core.specs.Spelled.{IsTold, IsTaken, IsWritten, IsSpelled};
-    ghost use Rattle.joiner_core.specs.Standing.{Serves, Stands, IsSame, IsReady, CanStart, Carries, Tells, needs_look_up, row, IsJoin, changed, epoch_after, known, CanChange, Fits, Leads, Answers, Does, own_token};
+    ghost use Rattle.joiner_core.specs.Standing.{Serves, Stands, IsSame, IsReady, CanStart, Carries, Tells, needs_look_up, row, IsJoin, changed, epoch_after, known, CanChange, Leads, Answers, Does, own_token};
 
     /// The joiner of this node number, which its tokens name, at this site. It takes no memory. Its first input is a Start.
     pub fn new(alloc: Global, node: u16, site: u8) -> JoinerCore
@@ -73,12 +63,13 @@ impl JoinerCore {
     /// changes, whatever it answers.
     ///
     /// Constant expected time and memory; a granted reply copies the texts of its pair, a Tick is linear in the joins in flight.
+    #[tactic(auto, using(crate::proofs::Answering::by_input, crate::proofs::Answering::if_ok, crate::proofs::Answering::sends_again))]
     pub fn decide(&mut self, input: JoinerInput) -> Result<Turn, AllocError>
         requires start { CanStart input }
         requires spelled { IsTaken input }
         ensures turn { IfOk result (λ turn. (g n k l i : _) → IsReady self.old g n k l input →
             Carries g k l input i → Answers self.new g n k (row g n k l i) turn) }
-        ensures fits { IfOk result (λ turn. Fits self.new turn) }
+        ensures fits { IfOk result (λ turn. CanChange self.new turn.change) }
         ensures spelled { IfOk result IsSpelled }
         ensures same { IsSame self.old self.new }
     {
@@ -98,14 +89,22 @@ impl JoinerCore {
         }
     }
 
-    /// Keeps a turn that was decided on what the core knows now, once its note is written. It takes no memory.
+    /// Makes the change of a turn that was decided on what the core knows now, once its note is written. It takes no memory.
     ///
     /// Constant expected time, and where a join leaves the flight those behind it move up, at most 31.
-    pub fn keep(&mut self, turn: Turn)
-        requires { Fits self.old turn }
-        ensures { (g n k l : _) → Leads self.old turn g n k l → Stands self.new g n k l }
+    pub fn keep(&mut self, change: Change)
+        requires { CanChange self.old change }
+        ensures { (g n k l : _) → Leads self.old change g n k l → Stands self.new g n k l }
     {
-        self.change(turn.change);
+        self.change(change);
+    }
+
+    /// The epoch in which it is up.
+    pub fn epoch(&self) -> u32
+        ensures is { result ≡ self.now.epoch }
+        ensures limit { result ≤ LAST_EPOCH }
+    {
+        self.epoch
     }
 
     /// Whether it has something to do by itself, which a joiner never has.
@@ -176,7 +175,7 @@ impl JoinerCore {
         ensures turn { IfOk result (λ turn. (g n k l : _) → Stands self.now g n k l →
             (needs_look_up l click.id ≡ true → Tells g click looked) →
             Answers self.now g n k (joins g n k l position click) turn) }
-        ensures fits { IfOk result (λ turn. Fits self.now turn) }
+        ensures fits { IfOk result (λ turn. CanChange self.now turn.change) }
         ensures spelled { IfOk result IsSpelled }
     {
         if self.flights.has(click.id) {
@@ -214,7 +213,7 @@ impl JoinerCore {
         requires spelled { IsNumber position × IsClick click × IsQuery query }
         ensures turn { IfOk result (λ turn. (g n k l : _) → Stands self.now g n k l →
             Answers self.now g n k (looks g n k l position click (Some query)) turn) }
-        ensures fits { IfOk result (λ turn. Fits self.now turn) }
+        ensures fits { IfOk result (λ turn. CanChange self.now turn.change) }
         ensures spelled { IfOk result IsSpelled }
     {
         if self.number == u64::MAX {
@@ -274,7 +273,7 @@ impl JoinerCore {
         requires { IsPacket packet.now }
         ensures turn { IfOk result (λ turn. (g n k l : _) → Stands self.now g n k l → (IsJoin packet.now → ⊥) →
             Answers self.now g n k (joiner_gets g n k l packet.now) turn) }
-        ensures fits { IfOk result (λ turn. Fits self.now turn) }
+        ensures fits { IfOk result (λ turn. CanChange self.now turn.change) }
         ensures spelled { IfOk result IsSpelled }
     {
         match packet {
@@ -289,7 +288,7 @@ impl JoinerCore {
         requires { IsAnswer answer }
         ensures turn { IfOk result (λ turn. (g n k l : _) → Stands self.now g n k l →
             Answers self.now g n k (replied g n k l insert answer (find (is_for insert) l.flight)) turn) }
-        ensures fits { IfOk result (λ turn. Fits self.now turn) }
+        ensures fits { IfOk result (λ turn. CanChange self.now turn.change) }
         ensures spelled { IfOk result IsSpelled }
     {
         let Some(waiting) = self.flights.find(insert) else {
@@ -336,7 +335,7 @@ impl JoinerCore {
         outcome: Outcome,
         note: Option<JoinerNote>,
     ) -> Result<Turn, AllocError>
-        requires { IsNumber position × IsOutcome outcome × IsWritten note }
+        requires { IsNumber position × IsOutcome outcome × IfSome note IsWritten }
         ensures does { IfOk result (λ turn.
             Does turn note ((Dispatcher self.now.site, packet.Joined position outcome) ∷ []) (Land insert)) }
         ensures spelled { IfOk result IsSpelled }

@@ -1,7 +1,5 @@
-pub mod Reading
-pub mod Reopening
-pub mod Deciding
-pub mod Turning
-pub mod Spending
-pub mod Writing
 pub mod Words
+pub mod Reading
+pub mod Deciding
+pub mod Reopening
+pub mod Writing

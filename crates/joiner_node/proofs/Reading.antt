@@ -4,13 +4,11 @@ use Rattle.std.specs.Option.{option_or}
 use Rattle.std.specs.List.{AllByRecursion}
 use Rattle.std.proofs.lemmas.List.{map-append, drop-drop, drop_at, take_all}
 use Rattle.std.proofs.lemmas.List.Folds.{find-append}
-use Rattle.joiner_node.proofs.Words.{HasRead}
+use Rattle.joiner_node.proofs.Words.{IsReadTo, Query}
 use Rattle.list_words.specs.Bytes.{Lacks}
 use Rattle.list_words.proofs.Splits.{split_same, lacks_none}
 use Rattle.event_id.specs.declared.id.EventId.{EventId}
-use Rattle.event_id.specs.EventId.{is_same}
 use Rattle.log_records.specs.declared.check.TheConstants.{MAX_LOG}
-use Rattle.log_records.specs.declared.records.QueryRec.{QueryRec as Query}
 use Rattle.log_records.specs.Line.{query_line, IsQuery}
 use Rattle.log_records.specs.Log.{first, line_feed, whole, HasLines}
 use Rattle.log_records.specs.Check.{IsQueryLog}
@@ -31,16 +29,11 @@ len_given : (qs : List Query) → length (given qs) ≡ length qs
 len_given [] = refl
 len_given (q ∷ qs) = let e = len_given qs in omega (arith, len_given qs)
 
-found_is : (log : List ℕ) (place : ℕ) (qs : List Query) (id : EventId) (has : HasRead log place qs) → found (given has.read) id ≡ first has.read id
-found_is log place qs id has = ap (λ (rs : List Query). first rs id) (records_given has.read)
-
-first_is : (log : List ℕ) (place : ℕ) (qs : List Query) (id : EventId) (has : HasRead log place qs) → first qs id ≡ option_or (found (given has.read) id) (first has.others id)
-first_is log place qs id has =
-    ap (λ (rs : List Query). first rs id) has.all ∙ find-append (λ (q : Query). is_same id q.id) has.read has.others
-    ∙ ap (λ (o : Option Query). option_or o (first has.others id)) (sym (found_is log place qs id has))
+first_is : (log : List ℕ) (place : ℕ) (qs : List Query) (id : EventId) (has : IsReadTo log place qs) → first qs id ≡ option_or (found (given has.read) id) (first has.others id)
+first_is log place qs id has = grind (arith, find-append, records_given)
 
 -- nothing is read of a log of these queries
-starts : (log : List ℕ) (qs : List Query) → IsQueryLog log qs → HasRead log 0 qs
+starts : (log : List ℕ) (qs : List Query) → IsQueryLog log qs → IsReadTo log 0 qs
 starts log qs is = record {
   read = [];
   others = qs;
@@ -51,23 +44,22 @@ starts log qs is = record {
 }
 
 -- a log of the same bytes, read up to the same place
-pub keeps : (log log' : List ℕ) (place place' : ℕ) (qs : List Query) → log' ≡ log → place' ≡ place → HasRead log place qs → HasRead log' place' qs
-keeps log log' place place' qs same at has = subst (λ (x : List ℕ). HasRead x place' qs) (sym same) (subst (λ (n : ℕ). HasRead log n qs) (sym at) has)
+pub keeps : (log log' : List ℕ) (place place' : ℕ) (qs : List Query) → log' ≡ log → place' ≡ place → IsReadTo log place qs → IsReadTo log' place' qs
+keeps log log' place place' qs same at has = subst (λ (x : List ℕ). IsReadTo x place' qs) (sym same) (subst (λ (n : ℕ). IsReadTo log n qs) (sym at) has)
 
-pub starts_at : (log log' : List ℕ) (place : ℕ) (qs : List Query) → log' ≡ log → place ≡ 0 → IsQueryLog log qs → HasRead log' place qs
+pub starts_at : (log log' : List ℕ) (place : ℕ) (qs : List Query) → log' ≡ log → place ≡ 0 → IsQueryLog log qs → IsReadTo log' place qs
 starts_at log log' place qs same at is = keeps log log' 0 place qs same at (starts log qs is)
 
 -- what is found among the lines read is the first of all
-pub finds : (log : List ℕ) (place : ℕ) (qs : List Query) (id : EventId) (q : Query) (has : HasRead log place qs) → found (given has.read) id ≡ Some q → first qs id ≡ Some q
+pub finds : (log : List ℕ) (place : ℕ) (qs : List Query) (id : EventId) (q : Query) (has : IsReadTo log place qs) → found (given has.read) id ≡ Some q → first qs id ≡ Some q
 finds log place qs id q has is = first_is log place qs id has ∙ ap (λ (o : Option Query). option_or o (first has.others id)) is
 
 no_more : (at : List ℕ) (others : List Query) → HasLines at (map query_line others) → Lacks line_feed at → others ≡ []
 no_more at [] has lacks = refl
-no_more at (q ∷ qs) has lacks =
-    absurd (lacks_none line_feed (query_line q) (whole (map query_line qs) ++ has.0) (subst (Lacks line_feed) (has.1 ∙ one_more (query_line q) (map query_line qs) has.0) lacks))
+no_more at (q ∷ qs) has lacks = grind (arith, lacks_none, one_more)
 
 -- at the log's end the lines read are all
-pub ends : (log : List ℕ) (place : ℕ) (qs : List Query) (id : EventId) (n : ℕ) (has : HasRead log place qs) → IsAtEnd log place → found (given has.read) id ≡ None → n ≡ length (given has.read) → (first qs id ≡ None) × (length qs ≡ n)
+pub ends : (log : List ℕ) (place : ℕ) (qs : List Query) (id : EventId) (n : ℕ) (has : IsReadTo log place qs) → IsAtEnd log place → found (given has.read) id ≡ None → n ≡ length (given has.read) → (first qs id ≡ None) × (length qs ≡ n)
 ends log place qs id n has at_end none counts =
     let empty : has.others ≡ [] = no_more (behind log place) has.others has.behind_them at_end in (
       first_is log place qs id has ∙ ap (λ (o : Option Query). option_or o (first has.others id)) none ∙ ap (λ (rs : List Query). first rs id) empty,
@@ -93,9 +85,8 @@ reads_more log from place end_ [] r at next = (end_, subst (λ (n : ℕ). ReadsN
 reads_more log from place end_ (line ∷ lines) r (mid, first_, others) next = (mid, first_, reads_more log mid place end_ lines r others next)
 
 more_by : (log : List ℕ) (place end_ : ℕ) (qs read others : List Query) (r : Option Query) → qs ≡ read ++ others → AreRead log place (given read) → AllByRecursion IsQuery others → HasLines (behind log place) (map query_line others)
-    → ReadsNext log place end_ r → HasRead log end_ qs
-more_by log place end_ qs read [] r all so_far each has (line, rest, is, lacks, counts, reads) =
-    absurd (lacks_none line_feed line rest (subst (Lacks line_feed) (sym has.1 ∙ is) has.2))
+    → ReadsNext log place end_ r → IsReadTo log end_ qs
+more_by log place end_ qs read [] r all so_far each has (line, rest, is, lacks, counts, reads) = grind (arith, lacks_none)
 more_by log place end_ qs read (q ∷ others) r all so_far each has (line, rest, is, lacks, counts, reads) =
     let parts = split_same line_feed line rest (query_line q) (whole (map query_line others) ++ has.0) lacks (query_lacks q each.0) (sym is ∙ has.1 ∙ one_more (query_line q) (map query_line others) has.0) in
     record {
@@ -110,5 +101,5 @@ more_by log place end_ qs read (q ∷ others) r all so_far each has (line, rest,
     }
 
 -- one line more is the next query
-pub more : (log : List ℕ) (place end_ : ℕ) (qs : List Query) (r : Option Query) → HasRead log place qs → ReadsNext log place end_ r → HasRead log end_ qs
+pub more : (log : List ℕ) (place end_ : ℕ) (qs : List Query) (r : Option Query) → IsReadTo log place qs → ReadsNext log place end_ r → IsReadTo log end_ qs
 more log place end_ qs r has next = more_by log place end_ qs has.read has.others r has.all has.so_far has.each has.behind_them next

@@ -1,19 +1,15 @@
 -- The words of this crate's proofs: what they take from its definitions and from the crates below, under one name each.
-pub use Rattle.joiner_core.specs.Standing.{Answers, Carries, IsReady, IsSame, Serves, Stands, Tells, note_of, row}
-pub use Rattle.joiner_core.specs.declared.node_core.JoinerCore.{JoinerCore}
-pub use Rattle.joiner_core.specs.declared.turn.JoinerNote.{JoinerNote}
-pub use Rattle.joiner_node.specs.Disks.{AreInDoubt, AreKept, EpochOr, Holds, InDoubt, IsCount, IsFound, IsNext, MayHave, PairsOr, bytes_of, counted, has_more, with_note}
-pub use Rattle.joiner_node.specs.Node.{IsRow, JoinerState, KeepsOf, LeadsTo, Parts, StandsAt, StandsBy, down_over, row_at, spends_of}
-pub use Rattle.joiner_node.specs.Read.{HasRead, IsFirst}
-pub use Rattle.joiner_node.specs.Records.{IsAbove, recorded_as}
-pub use Rattle.joiner_node.specs.States.{keeps_open, same_pairs}
-pub use Rattle.joiner_node.specs.declared.disks.Doubt.{Doubt}
-pub use Rattle.output_log.specs.Pairs.{Keeps, KeepsOr, record_of, spells}
-pub use Rattle.site_node.proofs.Stops.{both_meet, first_meets, one_by_one, second_meets}
-pub use Rattle.site_node.proofs.Turns.{ends_done, ends_idle, fits_of, none_of, on_err, turn_grown}
-pub use Rattle.site_node.specs.Faults.{IsUndamaged, IsWhole, MeetsBoth, was_shut_out, was_stopped}
-pub use Rattle.std.specs.Prelude.{All, Err, IfErr, IfOk, IsErrAnd, IsTrue, Ok, OnErr, OnOk, Option, Result, is_some, option_map, ⊤}
-pub use Rattle.turn_defs.specs.Joiner.{JoinerKept, JoinerLive, land_joiner}
-pub use Rattle.turn_defs.specs.Setting.{Setting}
-pub use Rattle.turn_defs.specs.declared.node.Input.{Input}
-pub use Rattle.turn_defs.specs.declared.node.Input.TheVariants.{Deliver, Own, Start, Tick}
+pub use Rattle.gate_journal.specs.Gate.{IsOldOrNew, gate_rule, records}
+pub use Rattle.gate_journal.specs.Spelled.{comes_next, never_damaged}
+pub use Rattle.joiner_core.specs.declared.input.JoinerInput.{JoinerInput}
+pub use Rattle.joiner_node.specs.Disks.{Doubts, EpochOr, Holds, IsCalm, OnDisks, PairsOr, counted, has_more, image_of_epochs, image_of_log, with_note}
+pub use Rattle.joiner_node.specs.Joining.{GoesOn, Knows, KnowsBy, MayRaise, ServesAs, StandsFor, takes_note}
+pub use Rattle.joiner_node.specs.Kept.{calm_stays, on_either}
+pub use Rattle.joiner_node.specs.Read.{HasRead, IsFirst, IsReadTo}
+pub use Rattle.joiner_node.specs.Terms.{Answers, Carries, Deliver, Input, IsReady, IsSame, IsUndamaged, JoinerCore, JoinerKept, JoinerLive, JoinerNote, LAST_EPOCH, MeetsBoth, Numbered, Only, Own, PairRec, Query, Serves, Setting, Stands, Start, Tells, Throughout, Tick, Turn, joiner_rows, land_joiner, needs_look_up, note_of, numbered, record_of, row}
+pub use Rattle.joiner_node.specs.declared.disks.Disks.{Disks}
+pub use Rattle.joiner_node.specs.declared.joining.Joining.{Joining}
+pub use Rattle.joiner_node.specs.declared.queries.Queries.{Queries}
+pub use Rattle.output_log.specs.Pairs.{Keeps, KeepsOr, record_of as pair_record, spells}
+pub use Rattle.site_node.proofs.Stops.{first_meets, second_meets, then_more}
+pub use Rattle.turn_defs.specs.Spellings.{IsPair}

@@ -1,54 +1,50 @@
--- One pair more on the disk.
-use Rattle.std.proofs.Common.{◌≡◌, inl, ℕ, ◌+◌, ◌-◌, ◌^◌, min, List, [], ◌∷◌, ◌++◌, length, Option, Some, sym, ap, ◌∙◌, subst, arith, length-append}
-use Rattle.joiner_node.proofs.Words.{AreKept, Err, Holds, JoinerKept, JoinerNote, Keeps, KeepsOr, Ok, OnOk, Result, record_of, recorded_as, same_pairs, spells, with_note}
-use Rattle.outside.proofs.Moments.{weaker}
-use Rattle.outside.specs.Disk.{Only, Throughout}
-use Rattle.gate_journal.specs.Gate.{records, StandsFor, IsOldOrNew}
+-- One note more on the disks.
+use Rattle.std.proofs.Common.{◌≡◌, ◌⊎◌, ℕ, ◌+◌, ◌-◌, ◌^◌, ◌<◌, min, true, List, [], ◌∷◌, ◌++◌, ap, ◌∙◌, subst, arith, length-append, Ok, Result}
+use Rattle.joiner_node.proofs.Words.{Disks, Holds, IsCalm, JoinerNote, Keeps, KeepsOr, LAST_EPOCH, Numbered, JoinerKept, OnDisks, PairsOr, image_of_epochs, image_of_log, note_of, pair_record, record_of, spells, takes_note, with_note, Only, Throughout, records, IsOldOrNew, comes_next, PairRec, IsPair}
+use Rattle.outside.specs.declared.disk.Disk as disk
+use Rattle.gate_journal.specs.Gate.{StandsFor}
 use Rattle.gate_journal.specs.Growth.{Continues}
-use Rattle.gate_journal.specs.Spelled.{comes_next}
-use Rattle.turn_defs.specs.declared.pair.PairRec.{PairRec}
-use Rattle.turn_defs.specs.Spellings.{IsPair}
+use Rattle.joiner_core.specs.Spelled.{IsWritten}
 use Rattle.joiner_core.specs.declared.turn.JoinerNote.TheVariants as notes
-use Rattle.joiner_node.specs.declared.records.Record.TheVariants as written
 
--- what is so of each image twice over is so both times
-both : {D : Type 0} (image : D → List ℕ → Type 0) (since : D → D → List ℕ → Type 0) (old new : D) (P Q : List ℕ → Type 0) → Throughout image since old new P → Throughout image since old new Q → Throughout image since old new (λ c. P c × Q c)
-both image since old new h k p q = grind arith
+-- an epoch comes next only below the last one
+pub low_of : (epoch e : ℕ) (n : JoinerNote) → n ≡ notes.Epoch e → takes_note epoch (note_of n) ≡ true → epoch < LAST_EPOCH
+low_of epoch e n is next = grind arith
 
 abbrev ok_of : List (List ℕ) → Result (List (List ℕ)) ℕ
 ok_of rs = Ok rs
 
-module _ {D : Type 0} (seen : D → List ℕ) (image : D → List ℕ → Type 0) (old : D) (ps : List PairRec) (p : PairRec) (payload : List ℕ) (only : Only (seen old) (image old)) (kept : AreKept (image old) ps) (is : IsPair p) (spelled : payload ≡ record_of p) where
-  -- where there is an image, the disk reads as the pairs
-  reads : (c : List ℕ) → image old c → spells ps (Ok (records (seen old)))
-  reads c here = grind arith
+module _ {D : Type 0} {d : disk.Ghosts D} where
+  -- room was made, and then records were added
+  pub grown : (r old : Disks D d) (epochs log : D) (k : Numbered JoinerKept) → IsCalm r old → Holds r k → ((c : List ℕ) → d.image epochs c → Continues (image_of_epochs old) c) × ((c : List ℕ) → d.image log c → Continues (image_of_log old) c)
+      → ((c : List ℕ) → d.image epochs c → Continues (image_of_epochs r) c) × ((c : List ℕ) → d.image log c → Continues (image_of_log r) c)
+  grown r old epochs log k calm holds more = grind arith
 
-  pub appended : (b : List ℕ) → StandsFor (records (seen old) ++ payload ∷ []) b → Continues (image old) b → Keeps (ps ++ p ∷ []) b
-  appended b stands (c, here, more) =
-      let grown = comes_next IsPair record_of ps p (records (seen old)) is (reads c here) in
-      (grown.0, stands ∙ ap (λ (r : List ℕ). ok_of (records (seen old) ++ r ∷ [])) spelled ∙ grown.1)
+  -- whatever was left since an earlier moment has what was kept, or that with the pair
+  pub pair_left : (r old : Disks D d) (new : D) (k : Numbered JoinerKept) (n : JoinerNote) → IsCalm r old → Holds r k → Throughout d.image d.since old.log.disk new (PairsOr k.disk (with_note n k).disk)
+      → (c : List ℕ × List ℕ) → d.since r.epochs.journal.disk old.epochs.journal.disk c.0 × d.since r.log.disk new c.1 → OnDisks k c ⊎ OnDisks (with_note n k) c
+  pair_left r old new k n calm holds moved c left = grind arith
 
-  leaves : (b : List ℕ) → IsOldOrNew (records (seen old)) payload b × Continues (image old) b → KeepsOr ps p b
-  leaves b h = grind (arith, appended)
+  module _ (old : Disks D d) (k : Numbered JoinerKept) (n : JoinerNote) (p : PairRec) (bytes : List ℕ) (holds : Holds old k) (only : Only (d.seen old.log.disk) (image_of_log old)) (is : n ≡ notes.Pair p) (written : IsWritten n) (spelled : bytes ≡ record_of (note_of n)) where
+    is_pair : IsPair p
+    is_pair = subst IsWritten is written
 
-  pub moments : (since : D → D → List ℕ → Type 0) (new : D) → Throughout image since old new (IsOldOrNew (records (seen old)) payload) → Throughout image since old new (Continues (image old)) → Throughout image since old new (KeepsOr ps p)
-  moments since new any grows = grind (arith, weaker, leaves)
+    -- where there is an image, the disk reads as the pairs
+    reads : (c : List ℕ) → image_of_log old c → spells k.disk.pairs (Ok (records (d.seen old.log.disk)))
+    reads c here = grind arith
 
--- ---- the note of the pair
+    appended : (b : List ℕ) → StandsFor (records (d.seen old.log.disk) ++ bytes ∷ []) b → Continues (image_of_log old) b → Keeps (k.disk.pairs ++ p ∷ []) b
+    appended b stands (c, here, more) =
+        let next = comes_next IsPair pair_record k.disk.pairs p (records (d.seen old.log.disk)) is_pair (reads c here) in
+        (next.0, stands ∙ ap (λ (r : List ℕ). ok_of (records (d.seen old.log.disk) ++ r ∷ [])) (spelled ∙ ap (λ (m : JoinerNote). record_of (note_of m)) is) ∙ next.1)
 
-pub note_is : (n : Option JoinerNote) (p : PairRec) (b : List ℕ) → Some (written.Pair p b) ≡ recorded_as n → n ≡ Some (notes.Pair p)
-note_is h p b e = grind arith
+    leaves : (b : List ℕ) → IsOldOrNew (records (d.seen old.log.disk)) bytes b × Continues (image_of_log old) b → KeepsOr k.disk.pairs p b
+    leaves b h = grind (arith, appended)
 
-pub kept_of : (e n : ℕ) (epoch_image pairs_image : List ℕ → Type 0) (k : JoinerKept) → Holds e n epoch_image pairs_image k → AreKept pairs_image k.pairs
-kept_of e n epoch_image pairs_image k holds c here = same_pairs k c (holds.images.pairs_or c here)
+    -- at each moment the log's disk has the pairs, or those and this one
+    pub pair_moments : (new : D) → Throughout d.image d.since old.log.disk new (IsOldOrNew (records (d.seen old.log.disk)) bytes) → Throughout d.image d.since old.log.disk new (Continues (image_of_log old)) → Throughout d.image d.since old.log.disk new (PairsOr k.disk (with_note n k).disk)
+    pair_moments new any grows = grind (arith, leaves)
 
-pub pair_holds : {T E : Type 0} (r : Result T E) (k : JoinerKept) (n : Option JoinerNote) (p : PairRec) (b : List ℕ) (epoch count count' : ℕ) (epoch_image old_pairs new_pairs : List ℕ → Type 0) → Some (written.Pair p b) ≡ recorded_as n
-    → Holds epoch count epoch_image old_pairs k → OnOk r (count' ≡ min (count + 1) (2 ^ 64 - 1)) → OnOk r (AreKept new_pairs (k.pairs ++ p ∷ [])) → OnOk r (Holds epoch count' epoch_image new_pairs (with_note n k))
-pair_holds (Err x) k n p b epoch count count' epoch_image old_pairs new_pairs is holds more kept = tt
-pair_holds (Ok x) k n p b epoch count count' epoch_image old_pairs new_pairs is holds more kept =
-    subst (λ (m : Option JoinerNote). Holds epoch count' epoch_image new_pairs (with_note m k)) (sym (note_is n p b is))
-    (record {
-      epoch_is = holds.epoch_is;
-      count_is = let longer : length (k.pairs ++ p ∷ []) ≡ length k.pairs + 1 = length-append k.pairs (p ∷ []) in omega (arith, more, holds.count_is, longer);
-      images = record { epochs_or = holds.images.epochs_or; pairs_or = λ c here. inl (kept c here) };
-    })
+    -- at the end it has this one
+    pub pair_holds : (new : Disks D d) → new.epochs ≡ old.epochs → new.written ≡ min (old.written + 1) (2 ^ 64 - 1) → ((c : List ℕ) → image_of_log new c → StandsFor (records (d.seen old.log.disk) ++ bytes ∷ []) c) → ((c : List ℕ) → image_of_log new c → Continues (image_of_log old) c) → Holds new (with_note n k)
+    pair_holds new same count durable grows = grind (arith, appended, length-append)

@@ -1,112 +1,121 @@
 -- A joiner's two disks: its epochs are on one of them, and the pairs that it wrote on the other.
-use Rattle.std.specs.Prelude.{◌≡◌, ◌⊎◌, ℕ, suc, ◌-◌, ◌^◌, ◌≤◌, min, Bool, not, ◌&&◌, ◌==◌, List, length, Option, Some, None, option_map, ⊤}
+use Rattle.std.specs.Prelude.{◌≡◌, ◌⊎◌, ℕ, ◌+◌, ◌-◌, ◌^◌, min, Bool, true, false, not, ◌&&◌, ◌==◌, List, length}
+use Rattle.joiner_node.specs.Terms.{Throughout, Ready, PairRec, JoinerKept, MeetsStops, OfBoth, Numbered, joiner_rows, numbered, note_of, IsWritten, JoinerNote}
+use Rattle.outside.specs.Plans.{AtMost}
+use Rattle.outside.specs.declared.disk.Disk as disk
 use Rattle.gate_journal.specs.Disk.{HasRoom}
-use Rattle.epoch_journal.specs.Epochs.{KeepsOr}
+use Rattle.gate_journal.specs.Growth.{Continues}
+use Rattle.gate_journal.specs.declared.journal.JournalState.{JournalState}
 use Rattle.epoch_journal.specs.Epochs as epochs
-use Rattle.turn_defs.specs.declared.pair.PairRec.{PairRec}
-use Rattle.output_log.specs.declared.pair.TheConstants.{LONGEST}
 use Rattle.output_log.specs.Pairs as pairs
-use Rattle.turn_defs.specs.Turns.{land}
-use Rattle.site_node.specs.Bytes.{record_of}
-use Rattle.turn_defs.specs.Joiner.{JoinerKept, land_joiner}
-use Rattle.joiner_core.specs.Standing.{note_of}
-use Rattle.joiner_core.specs.declared.turn.JoinerNote.{JoinerNote}
+use Rattle.output_log.specs.declared.pair.TheConstants.{LONGEST}
 use Rattle.joiner_core.specs.declared.turn.JoinerNote.TheVariants as notes
-use Rattle.joiner_node.specs.declared.records.Record.{Record}
-use Rattle.joiner_node.specs.declared.records.Record.TheVariants as written
-use Rattle.joiner_node.specs.declared.disks.Doubt.{Doubt}
+use Rattle.joiner_node.specs.Joining.{takes_note}
+use Rattle.joiner_node.specs.declared.disks.Disks.{Disks}
 
 -- the bytes of the epochs' disk, and those of the pairs'
 abbrev pub Contents : Type 0
 Contents = List ℕ × List ℕ
 
 -- the bytes are those of disks that hold these records
-abbrev pub OnDisks : JoinerKept → Contents → Type 0
-OnDisks k c = epochs.Keeps k.epoch c.0 × pairs.Keeps k.pairs c.1
+abbrev pub OnDisks : Numbered JoinerKept → Contents → Type 0
+OnDisks k c = epochs.Keeps k.disk.epoch c.0 × pairs.Keeps k.disk.pairs c.1
 
 -- each disk may hold what k has of it, or what m has
 abbrev pub EpochOr : JoinerKept → JoinerKept → List ℕ → Type 0
-EpochOr k m c = KeepsOr k.epoch m.epoch c
+EpochOr k m c = epochs.KeepsOr k.epoch m.epoch c
 
 abbrev pub PairsOr : JoinerKept → JoinerKept → List ℕ → Type 0
 PairsOr k m c = pairs.Keeps k.pairs c ⊎ pairs.Keeps m.pairs c
-
-pub record MayHave (k m : JoinerKept) (epoch_image pairs_image : List ℕ → Type 0) : Type 0 where
-  pub epochs_or : (c : List ℕ) → epoch_image c → EpochOr k m c
-  pub pairs_or : (c : List ℕ) → pairs_image c → PairsOr k m c
-
--- whatever a stop leaves has these pairs
-abbrev pub AreKept : (List ℕ → Type 0) → List PairRec → Type 0
-AreKept image ps = (c : List ℕ) → image c → pairs.Keeps ps c
 
 -- how many pairs these are, as far as a word of 64 bits counts
 abbrev pub counted : List PairRec → ℕ
 counted ps = min (length ps) (2 ^ 64 - 1)
 
--- the journals have these records, so many of them pairs, and so has whatever a stop leaves
-pub record Holds (epoch written : ℕ) (epoch_image pairs_image : List ℕ → Type 0) (k : JoinerKept) : Type 0 where
-  pub epoch_is : epoch ≡ k.epoch
-  pub count_is : written ≡ counted k.pairs
-  pub images : MayHave k k epoch_image pairs_image
-
--- an epoch is the one above the kept one
-abbrev pub IsNext : Option JoinerNote → JoinerKept → Type 0
-IsNext None k = ⊤
-IsNext (Some (notes.Epoch e)) k = e ≡ suc k.epoch
-IsNext (Some (notes.Pair p)) k = ⊤
+-- whether the epoch or the count is another than before
+abbrev pub has_more : (epoch before written had : ℕ) → Bool
+has_more epoch before written had = not ((epoch == before) && (written == had))
 
 -- the records with this note
-abbrev pub with_note : Option JoinerNote → JoinerKept → JoinerKept
-with_note n k = land land_joiner (option_map note_of n) k
+abbrev pub with_note : JoinerNote → Numbered JoinerKept → Numbered JoinerKept
+with_note n k = (numbered joiner_rows).lands (note_of n) k
 
-abbrev pub bytes_of : JoinerNote → List ℕ
-bytes_of n = record_of (note_of n)
+abbrev pub can_append : JournalState → Bool
+can_append Ready = true
+can_append _ = false
 
--- the note may have landed, where these records were kept before it
-pub record InDoubt (d : Doubt) (n : JoinerNote) (k : JoinerKept) : Type 0 where
-  pub record_is : d.payload ≡ bytes_of n
-  pub epoch_is : d.epoch ≡ k.epoch
-  pub count_is : d.pairs ≡ counted k.pairs
-  pub next : IsNext (Some n) k
+module _ {D : Type 0} {d : disk.Ghosts D} where
+  -- both journals can be appended to
+  abbrev pub is_ready : Disks D d → Bool
+  is_ready r = can_append r.epochs.journal.state && can_append r.log.state
 
-abbrev pub AreInDoubt : Option Doubt → Option JoinerNote → JoinerKept → Type 0
-AreInDoubt (Some d) (Some n) k = InDoubt d n k
-AreInDoubt (Some d) None k = ⊥
-AreInDoubt None n k = ⊥
+  -- what a stop now may leave of each disk, and of both; and of both since an earlier moment
+  abbrev pub image_of_epochs : Disks D d → List ℕ → Type 0
+  image_of_epochs r = d.image r.epochs.journal.disk
 
--- the record, and what was kept before it
-abbrev pub IsLeftBehind : Option Doubt → List ℕ → ℕ → ℕ → Type 0
-IsLeftBehind None payload epoch written = ⊥
-IsLeftBehind (Some d) payload epoch written = (d.payload ≡ payload) × (d.epoch ≡ epoch) × (d.pairs ≡ written)
+  abbrev pub image_of_log : Disks D d → List ℕ → Type 0
+  image_of_log r = d.image r.log.disk
 
--- what was kept is there and nothing landed, or the note landed
-abbrev pub IsFound : Option (List ℕ) → JoinerNote → JoinerKept → ℕ → ℕ → (epoch_image pairs_image : List ℕ → Type 0) → Type 0
-IsFound landed n k epoch written epoch_image pairs_image =
-    ((landed ≡ None) × Holds epoch written epoch_image pairs_image k) ⊎ ((landed ≡ Some (bytes_of n)) × Holds epoch written epoch_image pairs_image (with_note (Some n) k))
+  abbrev pub image : Disks D d → Contents → Type 0
+  image r c = image_of_epochs r c.0 × image_of_log r c.1
 
--- whether what was reopened has more than what was kept before
-abbrev pub has_more : ℕ → ℕ → Doubt → Bool
-has_more epoch written d = not ((epoch == d.epoch) && (written == d.pairs))
+  abbrev pub since : Disks D d → Disks D d → Contents → Type 0
+  since old new c = d.since old.epochs.journal.disk new.epochs.journal.disk c.0 × d.since old.log.disk new.log.disk c.1
 
--- so many pairs are these, as a list in memory counts them
-pub record IsCount (written : ℕ) (ps : List PairRec) : Type 0 where
-  pub many : written ≡ length ps
-  pub short : length ps ≤ 2 ^ 64 - 1
+  -- whatever a stop leaves, the records begin with those of what a stop might have left before
+  abbrev pub HasGrown : Disks D d → Disks D d → Type 0
+  HasGrown old new = ((c : List ℕ) → image_of_epochs new c → Continues (image_of_epochs old) c) × ((c : List ℕ) → image_of_log new c → Continues (image_of_log old) c)
 
--- so many pairs were read, these: one of the images before had them, and each one now has
-pub record AreRead (before now : List ℕ → Type 0) (written : ℕ) (ps : List PairRec) : Type 0 where
-  pub left : pairs.IsLeft before ps
-  pub kept : AreKept now ps
-  pub count : IsCount written ps
+  -- how many faults the disks have met, and how many stops of them are planned still
+  abbrev pub faults : Disks D d → ℕ
+  faults r = d.faults r.epochs.journal.disk + d.faults r.log.disk
 
--- what is left of the disks' room is enough to write the record
-pub record Room : Type 0 where
-  pub epoch_calls : ℕ
-  pub epoch_bytes : ℕ
-  pub pair_calls : ℕ
-  pub pair_bytes : ℕ
+  abbrev pub StopsLeft : Disks D d → ℕ → Type 0
+  StopsLeft r = OfBoth (AtMost (d.stops r.epochs.journal.disk) (d.made r.epochs.journal.disk)) (AtMost (d.stops r.log.disk) (d.made r.log.disk))
 
-abbrev pub IsRoomFor : Option Record → Room → Type 0
-IsRoomFor None r = ⊤
-IsRoomFor (Some (written.Epoch b)) r = HasRoom r.epoch_calls r.epoch_bytes 5
-IsRoomFor (Some (written.Pair p b)) r = HasRoom r.pair_calls r.pair_bytes LONGEST
+  abbrev pub Meets : Bool → Disks D d → Disks D d → Type 0
+  Meets met old new = MeetsStops met (StopsLeft old) (StopsLeft new) (faults old) (faults new)
+
+  -- the journals have what they had, and can be appended to as before
+  pub record IsSame (old new : Disks D d) : Type 0 where
+    pub epoch : new.epochs.value.epoch ≡ old.epochs.value.epoch
+    pub written : new.written ≡ old.written
+    pub states : (new.epochs.journal.state ≡ old.epochs.journal.state) × (new.log.state ≡ old.log.state)
+
+  -- nothing but room was made
+  pub record IsCalm (old new : Disks D d) : Type 0 where
+    pub same : IsSame old new
+    pub epochs : Throughout d.image d.since old.epochs.journal.disk new.epochs.journal.disk (image_of_epochs old)
+    pub pairs : Throughout d.image d.since old.log.disk new.log.disk (image_of_log old)
+
+  -- the epoch and the count are those of these records
+  pub record HasReached (r : Disks D d) (k : JoinerKept) : Type 0 where
+    pub epoch : r.epochs.value.epoch ≡ k.epoch
+    pub written : r.written ≡ counted k.pairs
+
+  -- the journals have these records, and so has whatever a stop leaves
+  pub record Holds (r : Disks D d) (k : Numbered JoinerKept) : Type 0 where
+    pub reached : HasReached r k.disk
+    pub epochs : (c : List ℕ) → image_of_epochs r c → epochs.Keeps k.disk.epoch c
+    pub pairs : (c : List ℕ) → image_of_log r c → pairs.Keeps k.disk.pairs c
+
+  -- the journals had these records, and whatever a stop leaves has them, or those with a note more
+  pub record Doubts (r : Disks D d) (k with : Numbered JoinerKept) : Type 0 where
+    pub reached : HasReached r k.disk
+    pub note : JoinerNote
+    pub next : takes_note k.disk.epoch (note_of note) ≡ true
+    pub with_is : with ≡ with_note note k
+    pub epochs : (c : List ℕ) → image_of_epochs r c → EpochOr k.disk (with_note note k).disk c
+    pub pairs : (c : List ℕ) → image_of_log r c → PairsOr k.disk (with_note note k).disk c
+
+  -- what is left of the disks' room is enough to write the note
+  abbrev pub HasRoomFor : Disks D d → JoinerNote → Type 0
+  HasRoomFor r (notes.Epoch e) = HasRoom (d.calls_left r.epochs.journal.disk) (d.bytes_left r.epochs.journal.disk) 5
+  HasRoomFor r (notes.Pair p) = HasRoom (d.calls_left r.log.disk) (d.bytes_left r.log.disk) LONGEST
+
+  -- the note can come next, and there is room for it
+  pub record MayAppend (r : Disks D d) (n : JoinerNote) : Type 0 where
+    pub ready : (r.epochs.journal.state ≡ Ready) × (r.log.state ≡ Ready)
+    pub next : takes_note r.epochs.value.epoch (note_of n) ≡ true
+    pub spelled : IsWritten n
+    pub room : HasRoomFor r n

@@ -1,6 +1,5 @@
+pub mod Terms
 pub mod Read
-pub mod Records
-pub mod Disks
 pub mod Joining
-pub mod Node
-pub mod States
+pub mod Disks
+pub mod Kept

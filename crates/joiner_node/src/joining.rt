@@ -1,62 +1,58 @@
-// What a joiner decides, and what it looks up for that.
-ghost use Rattle.std.specs.Prelude.{◌≡◌, ◌≤◌, ◌<◌, IfOk, IfErr, OnOk, OnErr};
-ghost use Rattle.ballot_core.specs.declared.TheConstants.{LAST_EPOCH};
-ghost use Rattle.joiner_node.specs.Joining.{asked_start};
+// A joiner that is up or down, and the query log.
+ghost use Rattle.std.specs.Prelude.{◌≡◌, ◌≤◌, false, [], Option, None, IfOk, IfErr, Some};
+ghost use Rattle.joiner_node.specs.Terms.{LAST_EPOCH, JoinerKept, Numbered, IsQueryLog, JoinerLive, Setting, site_of_joiner, joiner_at_rest, joiner_unfinished, joiner_wants, joiner_rows, numbered, spent_epoch, IsWritten, CanChange, note_of};
+ghost use Rattle.joiner_node.specs.Joining.{MayRaise, is_spent_at};
 
+use crate::held::HeldEpoch;
 use crate::queries::Queries;
 use ballot_core::LAST_EPOCH;
 use event_store::LookFault;
-use joiner_core::{JoinerCore, JoinerInput, Looked, Turn};
-use log_records::ClickRec;
+use joiner_core::{Change, JoinerCore, JoinerNote, Turn};
 use outside::LogFile;
-use site_node::NodeFault;
+use site_node::{Core, NodeFault};
 use std::alloc::{AllocError, Global};
-use turn_defs::{Input, Node, Packet};
+use std::marker::Model;
+use turn_defs::Input;
 
-// The core, which counts while the joiner is up, and the query log.
+/// What a joiner keeps: its number, and what its disks hold. There are no values of it.
 #[derive(Drop)]
-pub(crate) struct Joining<L: LogFile> {
+pub struct PairsKept;
+
+impl Model for PairsKept {
+    ghost Value = { Numbered JoinerKept };
+
+    ghost view = { λ v. record { number = 0; disk = record { epoch = 0; pairs = [] } } };
+}
+
+/// The core, which counts while the joiner is up, and the query log.
+#[derive(Drop)]
+pub struct Joining<L: LogFile> {
     core: JoinerCore,
-    up: bool,
     queries: Queries<L>,
+    // While it is down, the epoch on its disk.
+    down: Option<HeldEpoch>,
 }
 
 impl<L: LogFile> Joining<L> {
-    ghost use Rattle.std.specs.Prelude.{◌≡◌, ◌≤◌, ◌<◌, ℕ, true, false, Option, List, IsTrue, IfOk, IfErr, OnOk, OnErr, IsErrOf};
-    ghost use Rattle.outside.specs.Faults.{tallied};
-    ghost use Rattle.log_records.specs.declared.records.QueryRec.{QueryRec as Query};
-    ghost use Rattle.log_records.specs.Check.{IsQueryLog};
-    ghost use Rattle.turn_defs.specs.declared.node.Input.TheVariants.{Start};
-    ghost use Rattle.turn_defs.specs.Packets.{IsPacket};
-    ghost use Rattle.turn_defs.specs.declared.node.Input.TheVariants.{Deliver};
-    ghost use Rattle.turn_defs.specs.Setting.{Setting, site_of_joiner};
-    ghost use Rattle.site_node.specs.Bytes.{IsInput};
-    ghost use Rattle.site_node.specs.Faults.{IsReadFault, is_read_fault};
-    ghost use Rattle.site_node.specs.States.{Fits as MayGet};
-    ghost use Rattle.turn_defs.specs.Joiner.{JoinerKept, JoinerLive};
-    ghost use Rattle.joiner_core.specs.Spelled.{IsTaken, IsTold, IsSpelled};
-    ghost use Rattle.joiner_core.specs.Standing.{Serves, Stands, IsSame, CanStart, Carries, Tells, Fits, Leads, Answers, needs_look_up};
-    ghost use Rattle.joiner_node.specs.Read.{HasRead};
-    ghost use Rattle.joiner_node.specs.Joining.{Knows, GoesOn, joiner_row, IsOfDecision};
+    ghost use Rattle.joiner_node.specs.Joining.{Knows};
 
-    // A joiner that is down, and has read nothing of the log.
+    // A joiner that is down, over this epoch, and has read nothing of the log.
     pub(crate) fn new(
         alloc: Global,
         number: u16,
         site: u8,
+        held: HeldEpoch,
         log: L,
     ) -> Result<Joining<L>, (AllocError, L)>
-        ensures down { IfOk result (λ joining. joining.up ≡ false) }
-        ensures serves { IfOk result (λ joining. (g : Setting) → site ≡ site_of_joiner g number → Serves joining.core g number) }
+        ensures knows { IfOk result (λ joining. (g : Setting) (k : JoinerKept) → site ≡ site_of_joiner g number → IsQueryLog (L.bytes log) g.queries → held.epoch ≡ k.epoch → Knows joining g (record { number = number; disk = k }) None) }
         ensures log { IfOk result (λ joining. joining.queries.store.tail.log ≡ log) }
-        ensures reads { IfOk result (λ joining. (qs : List Query) → IsQueryLog (L.bytes log) qs → HasRead (L.bytes joining.queries.store.tail.log) joining.queries.store.tail.place qs) }
         ensures err { IfErr result (λ e. e.1 ≡ log) }
     {
         match Queries::new(alloc, log) {
             Ok(queries) => Ok(Joining {
                 core: JoinerCore::new(alloc, number, site),
-                up: false,
                 queries,
+                down: Some(held),
             }),
             Err(refused) => Err(refused),
         }
@@ -69,142 +65,109 @@ impl<L: LogFile> Joining<L> {
         self.queries.into_log()
     }
 
-    pub(crate) fn core(&self) -> &JoinerCore
-        ensures { result.now ≡ self.now.core }
+    // The kept epoch.
+    fn epoch(&self) -> u32
+        ensures kept { (g : Setting) (k : Numbered JoinerKept) (live : Option JoinerLive) → Knows self.now g k live → result ≡ k.disk.epoch }
+        ensures limit { result ≤ LAST_EPOCH }
     {
-        &self.core
-    }
-
-    // What the turn writes and sends, where the epoch is the kept one.
-    pub(crate) fn decide(&mut self, epoch: u32, input: Input) -> Result<Turn, NodeFault>
-        requires limit { epoch ≤ LAST_EPOCH }
-        requires input { IsInput input }
-        ensures up { self.new.up ≡ self.old.up }
-        ensures same { IsSame self.old.core self.new.core }
-        ensures reads { IsTrue L.tells → (qs : List Query) → HasRead (L.bytes self.old.queries.store.tail.log) self.old.queries.store.tail.place qs → HasRead (L.bytes self.new.queries.store.tail.log) self.new.queries.store.tail.place qs }
-        ensures turn { IsTrue L.tells → IfOk result (λ turn. (g : Setting) (n : ℕ) (k : JoinerKept) (live : Option JoinerLive) →
-            HasRead (L.bytes self.old.queries.store.tail.log) self.old.queries.store.tail.place g.queries →
-            Serves self.old.core g n → Knows self.old.up self.old.core g n k live → epoch ≡ k.epoch → MayGet live input →
-            Answers self.new.core g n k (joiner_row g n k live input) turn) }
-        ensures fits { IfOk result (λ turn. Fits self.new.core turn) }
-        ensures spelled { IfOk result IsSpelled }
-        ensures spent { (last : ℕ) → IsErrOf result (NodeFault.Spent last) → (input ≡ Start) × (epoch ≡ LAST_EPOCH) × (last ≡ epoch) }
-        ensures spends { input ≡ Start → epoch ≡ LAST_EPOCH → OnOk result ⊥ }
-        ensures kind { IfErr result IsOfDecision }
-        ensures tally { L.faults self.new.queries.store.tail.log ≡ tallied (L.faults self.old.queries.store.tail.log) (is_read_fault result) }
-    {
-        let asked = self.asked(epoch, input)?;
-        match self.core.decide(asked) {
-            Ok(turn) => Ok(turn),
-            Err(_) => Err(NodeFault::Memory),
-        }
-    }
-
-    // Makes the turn's change, once its note is written. The joiner is up then.
-    pub(crate) fn keep(&mut self, turn: Turn)
-        requires { Fits self.old.core turn }
-        ensures up { self.new.up ≡ true }
-        ensures stands { (g : Setting) (n : ℕ) (k : JoinerKept) (l : JoinerLive) → Leads self.old.core turn g n k l → Stands self.new.core g n k l }
-        ensures queries { self.new.queries ≡ self.old.queries }
-    {
-        self.core.keep(turn);
-        self.up = true;
-    }
-
-    // It is down.
-    pub(crate) fn fall(&mut self)
-        ensures down { self.new.up ≡ false }
-        ensures core { self.new.core ≡ self.old.core }
-        ensures queries { self.new.queries ≡ self.old.queries }
-    {
-        self.up = false;
-    }
-
-    // The core's input, with what is looked up for it. A Start past the last epoch is refused.
-    fn asked(&mut self, epoch: u32, input: Input) -> Result<JoinerInput, NodeFault>
-        requires limit { epoch ≤ LAST_EPOCH }
-        requires input { IsInput input }
-        ensures up { self.new.up ≡ self.old.up }
-        ensures same { self.new.core ≡ self.old.core }
-        ensures reads { IsTrue L.tells → (qs : List Query) → HasRead (L.bytes self.old.queries.store.tail.log) self.old.queries.store.tail.place qs → HasRead (L.bytes self.new.queries.store.tail.log) self.new.queries.store.tail.place qs }
-        ensures start { IfOk result CanStart }
-        ensures spelled { IfOk result IsTaken }
-        ensures carries { IsTrue L.tells → IfOk result (λ asked. (g : Setting) (n : ℕ) (k : JoinerKept) (l : JoinerLive) →
-            HasRead (L.bytes self.old.queries.store.tail.log) self.old.queries.store.tail.place g.queries →
-            epoch ≡ k.epoch → GoesOn self.old.core g n k l input → Carries g k l asked input) }
-        ensures spent { (last : ℕ) → IsErrOf result (NodeFault.Spent last) → (input ≡ Start) × (epoch ≡ LAST_EPOCH) × (last ≡ epoch) }
-        ensures spends { input ≡ Start → epoch ≡ LAST_EPOCH → OnOk result ⊥ }
-        ensures kind { IfErr result IsOfDecision }
-        ensures tally { L.faults self.new.queries.store.tail.log ≡ tallied (L.faults self.old.queries.store.tail.log) (is_read_fault result) }
-    {
-        match input {
-            Input::Start => start(epoch),
-            Input::Own => Ok(JoinerInput::Own),
-            Input::Tick => Ok(JoinerInput::Tick),
-            Input::Deliver { from, packet } => self.delivered(from, packet),
-        }
-    }
-
-    // A Join's query is looked up, where the core needs it.
-    fn delivered(&mut self, from: Node, packet: Packet) -> Result<JoinerInput, NodeFault>
-        requires { IsPacket packet }
-        ensures up { self.new.up ≡ self.old.up }
-        ensures same { self.new.core ≡ self.old.core }
-        ensures reads { IsTrue L.tells → (qs : List Query) → HasRead (L.bytes self.old.queries.store.tail.log) self.old.queries.store.tail.place qs → HasRead (L.bytes self.new.queries.store.tail.log) self.new.queries.store.tail.place qs }
-        ensures start { IfOk result CanStart }
-        ensures spelled { IfOk result IsTaken }
-        ensures carries { IsTrue L.tells → IfOk result (λ asked. (g : Setting) (n : ℕ) (k : JoinerKept) (l : JoinerLive) →
-            HasRead (L.bytes self.old.queries.store.tail.log) self.old.queries.store.tail.place g.queries →
-            Stands self.old.core g n k l → Carries g k l asked (Deliver from packet)) }
-        ensures kind { IfErr result IsReadFault }
-        ensures tally { L.faults self.new.queries.store.tail.log ≡ tallied (L.faults self.old.queries.store.tail.log) (is_read_fault result) }
-    {
-        match packet {
-            Packet::Join { position, click } => {
-                let looked = self.looked(&click)?;
-                Ok(JoinerInput::Join {
-                    position,
-                    click,
-                    looked,
-                })
-            }
-            packet => Ok(JoinerInput::Packet { from, packet }),
-        }
-    }
-
-    // What the log says of the click's query, where the core needs it.
-    fn looked(&mut self, click: &ClickRec) -> Result<Looked, NodeFault>
-        ensures up { self.new.up ≡ self.old.up }
-        ensures same { self.new.core ≡ self.old.core }
-        ensures reads { IsTrue L.tells → (qs : List Query) → HasRead (L.bytes self.old.queries.store.tail.log) self.old.queries.store.tail.place qs → HasRead (L.bytes self.new.queries.store.tail.log) self.new.queries.store.tail.place qs }
-        ensures spelled { IfOk result IsTold }
-        ensures tells { IsTrue L.tells → IfOk result (λ looked. (g : Setting) (n : ℕ) (k : JoinerKept) (l : JoinerLive) →
-            HasRead (L.bytes self.old.queries.store.tail.log) self.old.queries.store.tail.place g.queries →
-            Stands self.old.core g n k l → needs_look_up l click.now.id ≡ true → Tells g click.now looked) }
-        ensures kind { IfErr result IsReadFault }
-        ensures tally { L.faults self.new.queries.store.tail.log ≡ tallied (L.faults self.old.queries.store.tail.log) (is_read_fault result) }
-    {
-        if !self.core.needs_look_up(click.id) {
-            return Ok(Looked::Lines(0));
-        }
-        match self.queries.look_up(click.query) {
-            Ok(looked) => Ok(looked),
-            Err(LookFault::Read) => Err(NodeFault::Read),
-            Err(LookFault::Memory) => Err(NodeFault::Memory),
+        match self.down {
+            Some(held) => held.epoch,
+            None => self.core.epoch(),
         }
     }
 }
 
-// The Start above the kept epoch.
-fn start(epoch: u32) -> Result<JoinerInput, NodeFault>
-    requires { epoch ≤ LAST_EPOCH }
-    ensures ok { IfOk result (λ asked. asked ≡ asked_start epoch) }
-    ensures below { OnOk result (epoch < LAST_EPOCH) }
-    ensures err { IfErr result (λ e. e ≡ NodeFault.Spent epoch) }
-    ensures spent { OnErr result (epoch ≡ LAST_EPOCH) }
-{
-    if epoch == LAST_EPOCH {
-        return Err(NodeFault::Spent(epoch));
+impl<L: LogFile> Core<PairsKept> for Joining<L> {
+    ghost use Rattle.joiner_node.specs.Joining.{GoesOn, Knows, ServesAs, takes_note};
+
+    type Note = JoinerNote;
+
+    type Change = Change;
+
+    type Held = HeldEpoch;
+
+    ghost tells = { L.tells };
+
+    ghost Live = { JoinerLive };
+
+    ghost rows = { numbered joiner_rows };
+
+    ghost noted = { note_of };
+
+    ghost spelled = { IsWritten };
+
+    ghost takes = { λ k n. takes_note k.disk.epoch n };
+
+    ghost told = { λ held k. held.epoch ≡ k.disk.epoch };
+
+    ghost serves = { ServesAs };
+
+    ghost knows = { Knows };
+
+    ghost can_keep = { λ v note change. CanChange v.core change };
+
+    ghost goes_on = { λ v note change. GoesOn v change };
+
+    ghost spent = { λ k. spent_epoch k.disk.epoch };
+
+    ghost wants_as = { λ g k l. joiner_wants l };
+
+    ghost unfinished_as = { λ g k l. joiner_unfinished l };
+
+    ghost at_rest_as = { λ g k l. joiner_at_rest l };
+
+    ghost log_faults = { λ v. L.faults v.queries.store.tail.log };
+
+    ghost serves_known = { λ core g k live knows. knows.serves };
+
+    fn wants(&self) -> bool {
+        self.core.wants()
     }
-    Ok(JoinerInput::Start { epoch })
+
+    fn unfinished(&self) -> bool {
+        self.core.unfinished()
+    }
+
+    fn at_rest(&self) -> bool {
+        self.core.at_rest()
+    }
+
+    fn decide(&mut self, input: Input) -> Result<Turn, NodeFault> {
+        let epoch = self.epoch();
+        if is_spent(epoch, &input) {
+            return Err(NodeFault::Spent(epoch));
+        }
+        match self.queries.asked(&self.core, epoch, input) {
+            Ok(asked) => {
+                let turn = self.core.decide(asked)?;
+                Ok(turn)
+            }
+            Err(LookFault::Read) => Err(NodeFault::Read),
+            Err(LookFault::Memory) => Err(NodeFault::Memory),
+        }
+    }
+
+    fn keep(&mut self, turn: Turn)
+        requires { CanChange self.old.core turn.change }
+        ensures knows { (g : Setting) (k : Numbered JoinerKept) (l : JoinerLive) → GoesOn self.old turn.change g k l → Knows self.new g k (Some l) }
+        ensures log_count { L.faults self.new.queries.store.tail.log ≡ L.faults self.old.queries.store.tail.log }
+    {
+        self.core.keep(turn.change);
+        self.down = None;
+    }
+
+    fn put_down(&mut self, held: HeldEpoch) {
+        self.down = Some(held);
+    }
+}
+
+// Whether a start has no epoch left.
+fn is_spent(epoch: u32, input: &Input) -> bool
+    ensures is { result ≡ is_spent_at epoch input.now }
+    ensures low { epoch ≤ LAST_EPOCH → result ≡ false → MayRaise epoch input.now }
+{
+    match input {
+        Input::Start => epoch == LAST_EPOCH,
+        Input::Own | Input::Tick | Input::Deliver { .. } => false,
+    }
 }

@@ -1,6 +1,6 @@
 -- Each event of replicas and servers keeps what holds, and so does each run.
 use Rattle.std.proofs.Common.{◌≡◌, ◌⊎◌, ℕ, suc, max, ◌<◌, ◌≤◌, List, [], ◌∷◌, ◌++◌, length, Bool, true, ◌&&◌, Option, Some, None, inl, inr, refl, sym, ap, ◌∙◌, subst, arith, slice_get, ◌==◌, ◌≢◌}
-use Rattle.paxos_world.proofs.Words.{cond_both, eqb-true, and_parts, Mem, set_at, at_set, at_set_if, Ballot, is_same, same_true, Place, Note, acceptance, IsChosen, JournalsAgree, Phase, on_promise, on_accepted, IsGrant, IsAnswered, IsUnheard, at_push, unheard_written, chosen_written, unheard_sent, asks, offers, Packet, Prepare, Promise, Nack, Accept, Accepted, Chosen, Proposal, Shard, Live, Server, next_place, with_server, begins, phase_after, learns, packet_returns, if_up, starts, EpochsKept, learned_of, Stops, Starts}
+use Rattle.paxos_world.proofs.Words.{cond_both, eqb-true, and_parts, Mem, set_at, at_set, at_set_if, Ballot, is_same, same_true, Place, Note, acceptance, IsChosen, JournalsAgree, Phase, on_promise, on_accepted, IsGrant, IsAnswered, IsUnheard, at_push, unheard_written, chosen_written, unheard_sent, asks, offers, Packet, Prepare, Promise, Nack, Accept, Accepted, Chosen, Proposal, Shard, Live, Server, next_place, with_server, begins, learns, packet_returns, if_up, starts, EpochsKept, learned_of, Stops, Starts}
 use Rattle.paxos_world.specs.ServersWorld.{World, Event, opened, goes_on, promise_counted, acceptance_counted, counts, returns, happens, run}
 use Rattle.paxos_world.specs.ServersWorld.Event.{Proposes, Comes, Returns, ReplicaRestarts}
 use Rattle.paxos_world.proofs.Replicas.{Offered, Stands, Holds, IsQuiet, Lasts, stands_written, accept_came, stands_sent, Asked, promise_counts, Learned, acceptance_counts, holds_restored, was_sent, holds_with, holds_offered, holds_sent, arrives_holds, restarts_holds}
@@ -50,11 +50,8 @@ proposal_lasts js js' ps ps' s e round p (Some a) stands h = (h.0, stands a h.0.
 module _ {V : Type 0} (js js' : List (List (Note V))) (ps ps' : List (Packet V)) (s : ℕ) (unheard : (b : Ballot) → b.site ≡ s → (p : Place) → IsUnheard js (Offered ps) p b → IsUnheard js' (Offered ps') p b) (chosen : (p : Place) (v : V) → IsChosen js p v → IsChosen js' p v) where
   -- a server stands on, where its proposals do
   server_lasts : (server : Server V) → ((l : Live V) (shard : ℕ) (a : Proposal V) → a.ballot.site ≡ s → Stands js ps (next_place l shard) a.ballot a.phase → Stands js' ps' (next_place l shard) a.ballot a.phase) → ServerStands js ps s server → ServerStands js' ps' s server
-  server_lasts server stands h = record { undrawn = λ b u p. unheard b (site server.live b u) p (h.undrawn b u p); live = live server.live h.live }
+  server_lasts server stands h = record { undrawn = λ b u p. unheard b (grind arith) p (h.undrawn b u p); live = live server.live h.live }
     where
-      site : (o : Option (Live V)) (b : Ballot) → IsUndrawn s server.epoch o b → b.site ≡ s
-      site o b u = grind arith
-
       live : (o : Option (Live V)) → LiveStands js ps s server.epoch o → LiveStands js' ps' s server.epoch o
       live None h = tt
       live (Some l) h = λ shard. record { learned = λ slot v k. chosen _ v ((h shard).learned slot v k); proposal = proposal_lasts js js' ps ps' s server.epoch l.round (next_place l shard) (l.shards shard).proposal (stands l shard) (h shard).proposal }
@@ -68,9 +65,6 @@ lasts servers =
     }
 
 -- ---- a server goes on
-
-later_proposal : {V : Type 0} (js : List (List (Note V))) (ps : List (Packet V)) (s e round next : ℕ) (p : Place) (o : Option (Proposal V)) → round ≤ next → ProposalStands js ps s e round p o → ProposalStands js ps s e next p o
-later_proposal js ps s e round next p o le h = grind arith
 
 weaker : (e : ℕ) (b : Ballot) (round next : ℕ) → round ≤ next → (e < b.epoch) ⊎ ((e ≡ b.epoch) × (next < b.round)) → (e < b.epoch) ⊎ ((e ≡ b.epoch) × (round < b.round))
 weaker e b round next le h = grind arith
@@ -106,23 +100,19 @@ module _ {V : Type 0} {first : List (List (Note V))} (w : World V) (s : ℕ) (l 
       holds_with_server w s _ h
       (record {
         undrawn = λ b u p. unheard_yet b u.0 (weaker e b l.round round le u.1) p;
-        live = at_set (ShardStands js ps s e round) l.shards shard st stands (λ k. let old = lived k in record { learned = old.learned; proposal = later_proposal js ps s e l.round round (next_place l k) (l.shards k).proposal le old.proposal });
+        live = at_set (ShardStands js ps s e round) l.shards shard st stands (λ k. let old = lived k in record { learned = old.learned; proposal = grind arith });
       })
 
   module _ (shard : ℕ) where
     abbrev p : Place
     p = next_place l shard
 
-    -- the proposal comes to a phase that stands
-    phase_holds : (a : Proposal V) (phase : Phase V) → IsDrawn s e l.round a.ballot → Stands js ps p a.ballot phase → WorldHolds first (phase_after w s l shard a phase)
-    phase_holds a phase holds stands = holds_goes_on l.round shard _ (omega arith) (record { learned = (lived shard).learned; proposal = (holds, stands) })
-
     -- a value is learned
     learns_holds : (v : V) → IsChosen js p v → WorldHolds first (learns w s l shard v)
     learns_holds v chosen = holds_goes_on l.round shard _ (omega arith) (record { learned = learns_more js shard (l.shards shard).learned v (lived shard).learned chosen; proposal = tt })
 
     promise_holds : (a : Proposal V) (t : Phase V × Option V) → IsDrawn s e l.round a.ballot → Asked js ps p a.ballot t → WorldHolds first (promise_counted w s l shard a t)
-    promise_holds a (phase, None) holds stands = phase_holds a phase holds stands
+    promise_holds a (phase, None) holds stands = grind (arith, holds_goes_on, lived)
     promise_holds a (phase, Some v) holds (is_phase, unheard, safe) =
         holds_offered w.replicas p a.ballot v h unheard safe (λ k. at_set_if (λ k. Unit {0}) (ServerStands js (x ∷ ps)) w.servers s next mine (λ k _ apart. others k apart) k tt)
       where
@@ -135,26 +125,16 @@ module _ {V : Type 0} {first : List (List (Note V))} (w : World V) (s : ℕ) (l 
         next : Server V
         next = record { epoch = e; live = Some (record { round = l.round; shards = set_at l.shards shard st }) }
 
-        its_place : (q : Place) (c : Ballot) (u : V) → Accept p a.ballot v ≡ Accept q c u → p ≡ q
-        its_place q c u k = cc
-
         its_ballot : (q : Place) (c : Ballot) (u : V) → Accept p a.ballot v ≡ Accept q c u → a.ballot ≡ c
         its_ballot q c u k = cc
-
-        fresh : (b : Ballot) → (e < b.epoch) ⊎ ((e ≡ b.epoch) × (l.round < b.round)) → (q : Place) → IsQuiet x q b
-        fresh b (inl above) q c k = let same = ap (λ (z : Ballot). z.epoch) (its_ballot q b c k) in let of_server = holds.1 in omega (arith, same, of_server, above)
-        fresh b (inr above) q c k = let same = ap (λ (z : Ballot). z.round) (its_ballot q b c k) in let known = holds.2 in omega (arith, same, known, above.1)
-
-        elsewhere : (k : ℕ) → k ≢ shard → ShardStands js (x ∷ ps) s e l.round k (l.shards k)
-        elsewhere k apart = grind (arith, stands_sent)
 
         mine : ServerStands js (x ∷ ps) s next
         mine =
             record {
-              undrawn = λ b u q. unheard_sent js q b (accept_came js ps x q b (fresh b u.1 q)) (unheard_yet b u.0 u.1 q);
+              undrawn = λ b u q. unheard_sent js q b (accept_came js ps x q b (λ c k. grind arith)) (unheard_yet b u.0 u.1 q);
               live = λ k. at_set_if (λ k. Unit {0}) (ShardStands js (x ∷ ps) s e l.round) l.shards shard st
                   (record { learned = (lived shard).learned; proposal = (holds, subst (Stands js (x ∷ ps) p a.ballot) (sym is_phase) (offers v (inl refl))) })
-                  (λ k _ apart. elsewhere k apart) k tt;
+                  (λ k _ apart. grind (arith, stands_sent)) k tt;
             }
 
         others : (k : ℕ) → k ≢ s → ServerStands js (x ∷ ps) k (w.servers k)
@@ -166,11 +146,8 @@ module _ {V : Type 0} {first : List (List (Note V))} (w : World V) (s : ℕ) (l 
             quiet q b at u i = apart (sym at ∙ sym (ap (λ (z : Ballot). z.site) (its_ballot q b u i)) ∙ holds.0)
 
     acceptance_holds : (a : Proposal V) (t : Phase V × Option V) → IsDrawn s e l.round a.ballot → Learned js ps p a.ballot t → WorldHolds first (acceptance_counted w s l shard a t)
-    acceptance_holds a (phase, None) holds stands = phase_holds a phase holds stands
-    acceptance_holds a (phase, Some v) holds (stands, chosen) = holds_sent (lasts _) w.replicas (Chosen p v) (learns_holds v chosen) quiet chosen
-      where
-        quiet : (q : Place) (c : Ballot) → IsQuiet (Chosen p v) q c
-        quiet q c u e = cc
+    acceptance_holds a (phase, None) holds stands = grind (arith, holds_goes_on, lived)
+    acceptance_holds a (phase, Some v) holds (stands, chosen) = holds_sent (lasts _) w.replicas (Chosen p v) (learns_holds v chosen) (λ q c u e. cc) chosen
 
   counts_holds : (p : Place) (b : Ballot) (f : Proposal V → World V) → ((a : Proposal V) → IsDrawn s e l.round a.ballot → Stands js ps (next_place l p.shard) a.ballot a.phase → p ≡ next_place l p.shard → b ≡ a.ballot → WorldHolds first (f a)) → WorldHolds first (counts w l p b f (l.shards p.shard).proposal)
   counts_holds p b f holds = go (l.shards p.shard).proposal (lived p.shard).proposal
@@ -207,18 +184,11 @@ module _ {V : Type 0} {first : List (List (Note V))} (w : World V) (s : ℕ) (l 
       holds_sent (lasts _) w.replicas (Prepare (next_place l shard) b)
       (holds_goes_on (suc l.round) shard _ (omega arith)
       (record { learned = (lived shard).learned; proposal = ((refl, refl, omega arith), asks (unheard_yet b refl (inr (refl, omega arith)) (next_place l shard))) }))
-      (quiet b) tt
-    where
-      quiet : (b : Ballot) (q : Place) (c : Ballot) → IsQuiet {V = V} (Prepare (next_place l shard) b) q c
-      quiet b q c v e = cc
+      (λ q c v e. cc) tt
 
 -- ---- the events
 
 module _ {V : Type 0} {first : List (List (Note V))} (w : World V) (s : ℕ) (h : WorldHolds first w) where
-  -- a server that is down has drawn all ballots of its kept epoch
-  down_undrawn : (b : Ballot) → b.site ≡ s → (w.servers s).epoch < b.epoch → (p : Place) → IsUnheard w.replicas.journals (Offered w.replicas.packets) p b
-  down_undrawn b site above = grind arith
-
   starts_holds : (live : Option (Live V)) → WorldHolds first (starts w s live)
   starts_holds (Some l) = h
   starts_holds None = grind arith
@@ -231,7 +201,7 @@ happens_holds same w (Proposes s shard own) h = if_up_holds w s h _ (λ l is. be
 happens_holds same w (Comes r which) h = arrives_holds (lasts w.servers) same w.replicas r which h
 happens_holds same w (Returns s which) h = if_up_holds w s h _ (λ l is. returns_holds w s l h is (slice_get w.replicas.packets which) (was_sent w.replicas.packets which))
 happens_holds same w (ReplicaRestarts r) h = restarts_holds w.replicas r h
-happens_holds same w (Stops s) h = holds_with_server w s _ h (record { undrawn = λ b u p. down_undrawn w s h b u.0 u.1 p; live = tt })
+happens_holds same w (Stops s) h = grind (arith, holds_with_server)
 happens_holds same w (Starts s) h = starts_holds w s h (w.servers s).live
 
 run_holds : {V : Type 0} {first : List (List (Note V))} (same : V → V → Bool) (events : List (Event V)) (w : World V) → WorldHolds first w → WorldHolds first (run same events w)
@@ -239,10 +209,7 @@ run_holds same [] w h = h
 run_holds same (e ∷ es) w h = run_holds same es (happens same w e) (happens_holds same w e h)
 
 pub after_run : {V : Type 0} (same : V → V → Bool) (journals : List (List (Note V))) (epochs : ℕ → ℕ) (events : List (Event V)) → JournalsAgree journals → EpochsKept journals epochs → WorldHolds journals (run same events (opened journals epochs))
-after_run {V} same journals epochs events agree kept = run_holds same events (opened journals epochs) (holds_restored journals _ agree (λ s. record { undrawn = λ b u p. record { not_offered = λ v k. k; not_accepted = λ r v h. late s b u.0 u.1 (kept p r (acceptance b v) h) }; live = tt }))
-  where
-    late : (s : ℕ) (b : Ballot) → b.site ≡ s → epochs s < b.epoch → b.epoch ≤ epochs b.site → ⊥
-    late s b site above le = let at : b.epoch ≤ epochs s = subst (λ k. b.epoch ≤ epochs k) site le in omega arith
+after_run {V} same journals epochs events agree kept = run_holds same events (opened journals epochs) (holds_restored journals _ agree (λ s. record { undrawn = λ b u p. record { not_offered = λ v k. k; not_accepted = λ r v h. (let at : b.epoch ≤ epochs s = subst (λ k. b.epoch ≤ epochs k) u.0 (kept p r (acceptance b v) h) in omega arith) }; live = tt }))
 
 -- what a server has learned is chosen, slot by slot
 pub learned_chosen : {V : Type 0} (js : List (List (Note V))) (ps : List (Packet V)) (s e : ℕ) (o : Option (Live V)) (shard : ℕ) → LiveStands js ps s e o → AreChosen js shard (learned_of o shard)

@@ -1,5 +1,5 @@
 -- Each event of replicas and proposers keeps what holds, and so does each run.
-use Rattle.std.proofs.Common.{◌≡◌, ℕ, zero, suc, List, [], ◌∷◌, length, get_or, replicate, Bool, true, false, cond, ◌||◌, Option, Some, None, inl, refl, sym, ap, ◌∙◌, subst, arith, slice_get}
+use Rattle.std.proofs.Common.{◌≡◌, ℕ, suc, List, [], ◌∷◌, length, get_or, replicate, Bool, true, false, cond, Option, Some, None, inl, refl, sym, ap, ◌∙◌, subst, arith, slice_get}
 use Rattle.paxos_world.proofs.Words.{cond_both, Mem, Each, each_more, Ballot, is_same, same_true, same_false, Place, is_place, Note, IsChosen, JournalsAgree, Phase, Attempt, nobody, on_promise, on_accepted, Promising, Ended, IsGrant, IsAnswered, IsUnheard, Writes, place_true, not_noted, unheard_written, chosen_written, unheard_sent, asks, offers, Packet, Prepare, Promise, Nack, Accept, Accepted, draws, proposes, ProposerRestarts}
 use Rattle.paxos_world.specs.World.{World, Event, opened, goes_on, promise_counted, acceptance_counted, counts, returns, happens, run}
 use Rattle.paxos_world.specs.World.Event.{Proposes, Comes, Returns, ReplicaRestarts}
@@ -46,9 +46,8 @@ holds_opened : {V : Type 0} (journals : List (List (Note V))) → JournalsAgree 
 holds_opened {V} journals agree = grind (arith, not_noted)
 
 no_notes : {V : Type 0} (n r : ℕ) → get_or (replicate n []) r [] ≡ (let none : List (Note V) = [] in none)
-no_notes zero r = refl
-no_notes (suc n) zero = refl
 no_notes (suc n) (suc r) = no_notes n r
+no_notes _ _ = refl
 
 -- journals without notes agree
 pub empty_agree : {V : Type 0} (n : ℕ) → JournalsAgree {V = V} (replicate n [])
@@ -71,7 +70,7 @@ module _ {V : Type 0} {first : List (List (Note V))} where
   promise_holds w b a (phase, None) h drawn stands = holds_goes_on w b a phase h drawn stands
   promise_holds w b a (phase, Some v) h drawn (is, unheard, safe) =
       holds_offered w.replicas a.place b v h unheard safe
-      (record { ballots = attempt_set w b (record a { phase = phase }) js (x ∷ ps) drawn (subst (Stands js (x ∷ ps) a.place b) (sym is) (offers v (inl refl))) others; learned = h.rest.learned })
+      (record { ballots = attempt_set w b (record a { phase = phase }) js (x ∷ ps) drawn (subst (Stands js (x ∷ ps) a.place b) (sym is) (offers v (inl refl))) (λ c e. ballot_sent js ps c x (w.drawn c) (w.attempts c) (λ p u k. same_false c b e (cc)) (h.rest.ballots c)); learned = h.rest.learned })
     where
       js : List (List (Note V))
       js = w.replicas.journals
@@ -81,9 +80,6 @@ module _ {V : Type 0} {first : List (List (Note V))} where
 
       x : Packet V
       x = Accept a.place b v
-
-      others : (c : Ballot) → is_same c b ≡ false → BallotStands js (x ∷ ps) c (w.drawn c) (w.attempts c)
-      others c e = ballot_sent js ps c x (w.drawn c) (w.attempts c) (λ p u k. same_false c b e (cc)) (h.rest.ballots c)
 
   acceptance_holds : (w : World V) (b : Ballot) (a : Attempt V) (t : Phase V × Option V) → WorldHolds first w → w.drawn b ≡ true → Learned w.replicas.journals w.replicas.packets a.place b t → WorldHolds first (acceptance_counted w b a t)
   acceptance_holds w b a (phase, None) h drawn stands = holds_goes_on w b a phase h drawn stands
@@ -109,22 +105,12 @@ module _ {V : Type 0} {first : List (List (Note V))} where
   returns_holds w (Some (Nack r p b promised)) h s = ends_holds w b h
   returns_holds w _ h s = h
 
-  -- a ballot is drawn
-  holds_draws : (w : World V) (b : Ballot) → WorldHolds first w → w.drawn b ≡ false → WorldHolds first (draws w b)
-  holds_draws w b h fresh = grind arith
-
   proposes_holds : (w : World V) (p : Place) (b : Ballot) (own : V) → WorldHolds first w → w.drawn b ≡ false → WorldHolds first (proposes w p b own)
   proposes_holds w p b own h fresh =
       let a : Attempt V = record { place = p; own = own; phase = Ended } in
       let phase : Phase V = Promising (nobody (length w.replicas.journals)) None in
       let unheard = (subst (λ t. BallotStands w.replicas.journals w.replicas.packets b t (w.attempts b)) fresh (h.rest.ballots b)).0 p in
-      holds_sent (lasts (goes_on (draws w b) b a phase)) w.replicas (Prepare p b) (holds_goes_on (draws w b) b a phase (holds_draws w b h fresh) (mine (is_same b b) refl) (asks unheard)) quiet tt
-    where
-      quiet : (q : Place) (c : Ballot) → IsQuiet {V = V} (Prepare p b) q c
-      quiet q c v e = cc
-
-      mine : (t : Bool) → is_same b b ≡ t → (t || w.drawn b) ≡ true
-      mine t e = grind arith
+      holds_sent (lasts (goes_on (draws w b) b a phase)) w.replicas (Prepare p b) (holds_goes_on (draws w b) b a phase (grind arith) (grind arith) (asks unheard)) (λ q c v e. cc) tt
 
   happens_holds : (same : V → V → Bool) (w : World V) (e : Event V) → WorldHolds first w → WorldHolds first (happens same w e)
   happens_holds same w (Proposes p b own) h = cond_both (w.drawn b) w (proposes w p b own) (WorldHolds first) (λ _. h) (proposes_holds w p b own h)

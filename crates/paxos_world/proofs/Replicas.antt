@@ -1,6 +1,6 @@
 -- What holds of replicas and packets in both worlds, and how each of their turns keeps it.
 use Rattle.std.proofs.Common.{◌≡◌, ℕ, zero, suc, ◌<◌, List, [], ◌∷◌, length, set, Bool, true, false, cond, ◌&&◌, ◌==◌, Option, Some, None, inl, inr, ⊎_elim, refl, sym, ap, ◌∙◌, subst, arith, slice_get, nat_lt}
-use Rattle.paxos_world.proofs.Words.{nat_tests, cond_both, ltb-true, Mem, none_some, some_same, Ballot, Place, is_place, Note, note_of, Vote, acceptance, votes, cell_after, cell_of, IsChosen, IsOnly, IsSafe, JournalsAgree, Rises, Prepared, Taken, on_prepare, on_accept, Phase, is_new, is_most, nobody, on_promise, on_accepted, Promising, Accepting, Ended, IsGrant, IsRefusal, IsOffer, IsAnswered, IsUnheard, IsAsking, IsOffering, Writes, Knows, cell_knows, cell_push, noted, note_casts, note_elsewhere, place_true, after, PreparedHolds, IsPromiseVote, prepare_holds, IsAcceptanceVote, TakenHolds, accept_holds, grant_written, refusal_written, offer_written, answer_written, asking_written, offering_written, chosen_written, first_offer, vote_suits, note_writes, note_agrees, asks_on, asked, offers_on, accepted, Packet, Replicas, restored, sent, casts, prepared, taken, comes, arrives, restarts, Prepare, Promise, Nack, Accept, Accepted, Chosen}
+use Rattle.paxos_world.proofs.Words.{agreed_one, decided, decided_begin, decided_is, Begins, IsExact, nat_tests, cond_both, ltb-true, Mem, none_some, some_same, Ballot, Place, is_place, Note, note_of, Vote, acceptance, votes, cell_after, cell_of, IsChosen, IsOnly, IsSafe, JournalsAgree, Rises, Taken, on_prepare, on_accept, Phase, is_new, is_most, nobody, on_promise, on_accepted, Promising, Accepting, Ended, IsGrant, IsRefusal, IsOffer, IsAnswered, IsUnheard, IsAsking, IsOffering, Writes, Knows, cell_knows, cell_push, noted, note_casts, note_elsewhere, after, IsPromiseVote, prepare_holds, IsAcceptanceVote, TakenHolds, accept_holds, grant_written, refusal_written, offer_written, answer_written, asking_written, offering_written, chosen_written, first_offer, vote_suits, note_writes, note_agrees, asks_on, asked, offers_on, accepted, Packet, Replicas, restored, sent, casts, taken, comes, arrives, restarts, Prepare, Promise, Nack, Accept, Accepted, Chosen}
 
 abbrev pub Offered : {V : Type 0} → List (Packet V) → Place → Ballot → V → Type 0
 Offered ps p b v = Mem (Accept p b v) ps
@@ -111,15 +111,9 @@ module _ {V : Type 0} {first : List (List (Note V))} {Rest : List (List (Note V)
       x : Packet V
       x = Accept p b v
 
-      same_value : (u : V) → Accept p b v ≡ Accept p b u → u ≡ v
-      same_value u e = cc
-
-      others : (q : Place) (c : Ballot) (u w : V) → Offered a.packets q c u → x ≡ Accept q c w → Offered a.packets p b u
-      others q c u w s e = let place : q ≡ p = cc in let ballot : c ≡ b = cc in subst (λ (z : Place × Ballot). Offered a.packets z.0 z.1 u) (λ i. (place i, ballot i)) s
-
       facts : (y : Packet V) → Mem y (x ∷ a.packets) → Fact a.journals (x ∷ a.packets) y
-      facts y (inl e) = subst (Fact a.journals (x ∷ a.packets)) e (first_offer a.journals p b v (λ u s. ⊎_elim (λ (e : x ≡ Accept p b u). inr (same_value u e)) (λ (o : Offered a.packets p b u). inl o) s) unheard safe)
-      facts y (inr s) = fact_sent a.journals a.packets x y (λ q c u is w e. absurd (unheard.not_offered u (others q c u w (subst (λ z. Mem z a.packets) is s) e))) (h.facts y s)
+      facts y (inl e) = subst (Fact a.journals (x ∷ a.packets)) e (first_offer a.journals p b v (λ u s. ⊎_elim (λ (e : x ≡ Accept p b u). inr (cc)) (λ (o : Offered a.packets p b u). inl o) s) unheard safe)
+      facts y (inr s) = fact_sent a.journals a.packets x y (λ q c u is w e. absurd (unheard.not_offered u (let place : q ≡ p = cc in let ballot : c ≡ b = cc in subst (λ (z : Place × Ballot). Offered a.packets z.0 z.1 u) (λ i. (place i, ballot i)) (subst (λ z. Mem z a.packets) is s)))) (h.facts y s)
 
 module _ {V : Type 0} (a : Replicas V) (r : ℕ) (p : Place) (b : Ballot) where
   -- the vote that a turn casts: no other is above it, and what it accepts was sent
@@ -132,18 +126,6 @@ module _ {V : Type 0} (a : Replicas V) (r : ℕ) (p : Place) (b : Ballot) where
 
   acceptance_cast : (v : V) → Offered a.packets p b v → (vote : Option (Vote V)) → IsAcceptanceVote (votes a.journals p r) b v vote → IsCast vote
   acceptance_cast v s vote fits = grind arith
-
-  still_offered : (vote : Option (Vote V)) (v : V) → Offered a.packets p b v → Offered (casts a r p vote).packets p b v
-  still_offered vote v s = grind arith
-
-  prepared_quiet : (t : Prepared V) (q : Place) (c : Ballot) → IsQuiet (prepared r p b t) q c
-  prepared_quiet t q c v e = grind arith
-
-  taken_quiet : (t : Taken) (q : Place) (c : Ballot) → IsQuiet {V = V} (taken r p b t) q c
-  taken_quiet t q c v e = grind arith
-
-  prepared_fact : (t : Prepared V) → PreparedHolds (votes a.journals p r) b t → Fact a.journals a.packets (prepared r p b t)
-  prepared_fact t h = grind arith
 
   taken_fact : (v : V) (t : Taken) → Offered a.packets p b v → IsOnly (votes a.journals p) b v → TakenHolds (votes a.journals p r) b t → Fact a.journals a.packets (taken r p b t)
   taken_fact v t s only h = grind arith
@@ -177,8 +159,7 @@ module _ {V : Type 0} {first : List (List (Note V))} {Rest : List (List (Note V)
       remembered k q false true e f =
           let one = note_casts a.journals r p x within rises in
           let apart : k ≡ r → ⊥ = λ same. grind (arith, nat_tests) in
-          subst (λ (z : Place). a.cells k z ≡ cell_of (votes (noted a.journals r (note_of p x)) z k)) (place_true p q f)
-          (h.remembered k p ∙ ap (λ ys. cell_of ys) (sym (⊎_elim (λ (same : votes (noted a.journals r (note_of p x)) p k ≡ votes a.journals p k). same) (λ (same : k ≡ r). absurd (apart same)) (one.others k))))
+          grind (arith, cell_of, votes, noted, note_of)
 
   -- a turn casts its vote, and answers
   answers_holds : (a : Replicas V) (r : ℕ) (p : Place) (b : Ballot) (vote : Option (Vote V)) (x : Packet V) → Holds first Rest a → r < length a.journals → IsCast a r p b vote → ((q : Place) (c : Ballot) → IsQuiet x q c) → (Holds first Rest (casts a r p vote) → votes (casts a r p vote).journals p r ≡ after (votes a.journals p r) vote → Fact (casts a r p vote).journals (casts a r p vote).packets x) → Holds first Rest (sent (casts a r p vote) x)
@@ -193,16 +174,15 @@ module _ {V : Type 0} {first : List (List (Note V))} {Rest : List (List (Note V)
   comes_holds : (same : V → V → Bool) (a : Replicas V) (r : ℕ) (o : Option (Packet V)) → Holds first Rest a → r < length a.journals → ((x : Packet V) → o ≡ Some x → Mem x a.packets) → Holds first Rest (comes same a r o)
   comes_holds same a r (Some (Prepare p b)) h within s =
       let turn = prepare_holds (votes a.journals p r) (a.cells r p) b (knows a h r p) in
-      let t = (on_prepare (a.cells r p) b).1 in
-      answers_holds a r p b (on_prepare (a.cells r p) b).0 (prepared r p b t) h within (promise_cast a r p b (on_prepare (a.cells r p) b).0 turn.0) (prepared_quiet a r p b t)
-      (λ next e. prepared_fact (casts a r p (on_prepare (a.cells r p) b).0) r p b t (subst (λ ys. PreparedHolds ys b t) (sym e) turn.1))
+      let vote = (on_prepare (a.cells r p) b).0 in
+      answers_holds a r p b vote _ h within (promise_cast a r p b vote turn.0) (λ q c v e. grind arith) (λ next e. grind arith)
   comes_holds same a r (Some (Accept p b v)) h within s =
       let turn = accept_holds same (votes a.journals p r) (a.cells r p) b v (knows a h r p) in
-      let t = (on_accept same (a.cells r p) b v).1 in
       let vote = (on_accept same (a.cells r p) b v).0 in
-      let told = still_offered a r p b vote v (s (Accept p b v) refl) in
-      answers_holds a r p b vote (taken r p b t) h within (acceptance_cast a r p b v (s (Accept p b v) refl) vote turn.0) (taken_quiet a r p b t)
-      (λ next e. taken_fact (casts a r p vote) r p b v t told (next.facts (Accept p b v) told).only (subst (λ ys. TakenHolds ys b t) (sym e) turn.1))
+      let told = s (Accept p b v) refl in
+      answers_holds a r p b vote _ h within (acceptance_cast a r p b v told vote turn.0) (λ q c v e. grind arith)
+      (λ next e. let still : Offered (casts a r p vote).packets p b v = grind arith in
+      taken_fact (casts a r p vote) r p b v _ still (next.facts (Accept p b v) still).only (subst (λ ys. TakenHolds ys b (on_accept same (a.cells r p) b v).1) (sym e) turn.1))
   comes_holds same a r _ h within s = h
 
   pub arrives_holds : (same : V → V → Bool) (a : Replicas V) (r which : ℕ) → Holds first Rest a → Holds first Rest (arrives same a r which)
@@ -211,3 +191,9 @@ module _ {V : Type 0} {first : List (List (Note V))} {Rest : List (List (Note V)
 
 pub restarts_holds : {V : Type 0} {first : List (List (Note V))} {Rest : List (List (Note V)) → List (Packet V) → Type 0} (a : Replicas V) (r : ℕ) → Holds first Rest a → Holds first Rest (restarts a r)
 restarts_holds a r h = grind arith
+
+-- what was decided begins what is decided
+pub decided_kept : {V : Type 0} {first : List (List (Note V))} {Rest : List (List (Note V)) → List (Packet V) → Type 0} (a : Replicas V) → Holds first Rest a → JournalsAgree first → (same : V → V → Bool) (shard : ℕ) → IsExact same → Begins (decided same first shard) (decided same a.journals shard)
+decided_kept a h agree same shard exact =
+    let one = agreed_one a.journals h.agree in
+    decided_begin _ a.journals shard _ _ one (decided_is same exact _ (agreed_one _ agree) shard) (decided_is same exact a.journals one shard) h.kept

@@ -1,9 +1,6 @@
 -- Replicas and every packet that was ever sent, and what may happen to them.
 use Rattle.std.specs.Prelude.{ℕ, Bool, if◌then◌else◌, ◌&&◌, ◌==◌, nat_lt, List, [], ◌∷◌, ◌++◌, length, get_or, set, slice_get, Option, Some, None}
-use Rattle.ballot_core.specs.declared.Ballot.{Ballot}
-use Rattle.paxos_defs.specs.declared.Place.{Place}
-use Rattle.paxos_defs.specs.Notes.{is_place, Note, note_of, Vote, votes, Cell, cell_after, cell_of}
-use Rattle.paxos_defs.specs.Turns.{Prepared, Taken, on_prepare, on_accept}
+use Rattle.paxos_world.specs.Terms.{Ballot, Cell, Note, Place, Prepared, Taken, Vote, cell_after, cell_of, is_place, note_of, on_accept, on_prepare, votes}
 use Rattle.paxos_defs.specs.Turns.Prepared.{Grant, Refuse}
 use Rattle.paxos_defs.specs.Turns.Taken.{Take, Decline}
 

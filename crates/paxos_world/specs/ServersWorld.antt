@@ -1,13 +1,6 @@
 -- Replicas, and servers that learn the values of each shard in the order of its slots.
 use Rattle.std.specs.Prelude.{ℕ, suc, max, ◌≤◌, Bool, if◌then◌else◌, ◌&&◌, ◌==◌, List, [], ◌∷◌, ◌++◌, length, slice_get, Option, Some, None}
-use Rattle.list_words.specs.Lists.{set_at}
-use Rattle.ballot_core.specs.declared.Ballot.{Ballot}
-use Rattle.ballot_core.specs.Ballots.{is_same}
-use Rattle.paxos_defs.specs.declared.Place.{Place}
-use Rattle.paxos_defs.specs.Notes.{Note, Vote, votes, Has}
-use Rattle.paxos_defs.specs.Agreement.{JournalsAgree}
-use Rattle.paxos_defs.specs.Attempts.{Phase, nobody, on_promise, on_accepted}
-use Rattle.paxos_defs.specs.Attempts.Phase.{Promising}
+use Rattle.paxos_world.specs.Terms.{Ballot, Has, JournalsAgree, Note, Phase, Place, Promising, Vote, is_same, nobody, on_accepted, on_promise, set_at, votes}
 use Rattle.paxos_world.specs.Replicas.{Packet, Replicas, restored, sent, arrives, restarts}
 use Rattle.paxos_world.specs.Replicas.Packet.{Prepare, Promise, Nack, Accept, Accepted, Chosen}
 

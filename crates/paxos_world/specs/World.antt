@@ -1,13 +1,6 @@
 -- Replicas and proposers, and what may happen to them.
 use Rattle.std.specs.Prelude.{ℕ, Bool, if◌then◌else◌, ◌||◌, List, [], ◌∷◌, length, slice_get, Option, Some, None}
-use Rattle.list_words.specs.Lists.{Each}
-use Rattle.ballot_core.specs.declared.Ballot.{Ballot}
-use Rattle.ballot_core.specs.Ballots.{is_same}
-use Rattle.paxos_defs.specs.declared.Place.{Place}
-use Rattle.paxos_defs.specs.Notes.{is_place, Note, is_noted}
-use Rattle.paxos_defs.specs.Agreement.{IsChosen, JournalsAgree}
-use Rattle.paxos_defs.specs.Attempts.{Phase, Attempt, nobody, on_promise, on_accepted}
-use Rattle.paxos_defs.specs.Attempts.Phase.{Promising, Ended}
+use Rattle.paxos_world.specs.Terms.{Attempt, Ballot, Each, Ended, IsChosen, JournalsAgree, Note, Phase, Place, Promising, is_noted, is_place, is_same, nobody, on_accepted, on_promise}
 use Rattle.paxos_world.specs.Replicas.{Packet, Replicas, restored, sent, arrives, restarts}
 use Rattle.paxos_world.specs.Replicas.Packet.{Prepare, Promise, Nack, Accept, Accepted}
 

@@ -4,10 +4,7 @@
 pub mod servers;
 
 ghost use Rattle.std.specs.Prelude.{◌≡◌, ℕ, [], ◌∷◌, Bool, replicate};
-ghost use Rattle.list_words.specs.Lists.{Begins};
-ghost use Rattle.paxos_defs.specs.declared.Place.{Place};
-ghost use Rattle.paxos_defs.specs.Agreement.{JournalsAgree, IsChosen, OneChosen};
-ghost use Rattle.paxos_defs.specs.Decided.{decided, IsExact};
+ghost use Rattle.paxos_world.specs.Terms.{Begins, IsChosen, IsExact, JournalsAgree, OneChosen, Place, decided};
 ghost use Rattle.paxos_world.specs.World.{run, opened, EveryRun, AllChosen};
 ghost use Rattle.paxos_world.specs.Example.{two_proposals, first_place};
 

@@ -1,9 +1,7 @@
 // Paxos with servers that draw ballots by their epochs and rounds, learn each shard's values in order and tell each
 // other, as a protocol over lists of events.
 ghost use Rattle.std.specs.Prelude.{◌≡◌, ◌⊎◌, ℕ, [], ◌∷◌, Bool, replicate};
-ghost use Rattle.list_words.specs.Lists.{Begins};
-ghost use Rattle.paxos_defs.specs.Agreement.{JournalsAgree};
-ghost use Rattle.paxos_defs.specs.Decided.{decided, IsExact};
+ghost use Rattle.paxos_world.specs.Terms.{Begins, IsExact, JournalsAgree, decided};
 ghost use Rattle.paxos_world.specs.ServersWorld.{run, opened, EveryRun, learned_of};
 ghost use Rattle.paxos_world.specs.ServersExample.{first_slot};
 

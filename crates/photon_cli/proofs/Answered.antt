@@ -1,7 +1,7 @@
 -- What a command answers, by what came of it.
 use Rattle.std.proofs.Common.{◌≡◌, ◌≢◌, ◌⊎◌, inl, inr, ⊎_elim, ℕ, ◌<◌, ◌≤◌, List, Bool, true, false, IsTrue, refl, arith}
-use mir.Val.{bool_byte}
 use Rattle.photon_cli.proofs.Words.{Counts, IsAnswered, IsFailedRead, RunFault, WordsFault, status_of, words_status}
+use mir.Val.{bool_byte}
 use Rattle.run_fault.specs.declared.fault.RunFault.TheVariants as fault
 use Rattle.command_words.specs.declared.asked.WordsFault.TheVariants as words_fault
 use Rattle.photon_cli.proofs.Statuses.{failed_of, write_of}

@@ -1,8 +1,6 @@
 -- By what a fault and its cause say, how a join or a verification may end.
-use Rattle.std.proofs.Common.{arith}
-use Rattle.std.proofs.Common.{◌≡◌, ◌≢◌, ◌⊎◌, ℕ, List, true, Option, None}
-use Rattle.std.specs.Prelude.{⊤}
-use Rattle.photon_cli.proofs.Words.{Topology, LogName, Misplaced, RunFault, IsWelcome, status_of, Images, IsFitFor, KeptDisk, KeptValues, HasCause, first_limit, cause_more, IsLogFault, IsPast, failed_read}
+use Rattle.std.proofs.Common.{arith, ◌≡◌, ◌≢◌, ◌⊎◌, ℕ, List, true, Option, None}
+use Rattle.photon_cli.proofs.Words.{⊤, Topology, LogName, Misplaced, RunFault, IsWelcome, status_of, Images, IsFitFor, KeptDisk, KeptValues, HasCause, first_limit, cause_more, IsLogFault, IsPast, failed_read}
 use Rattle.run_fault.specs.declared.fault.RunFault.TheVariants as fault
 use Rattle.site_store.specs.Causes.{Keeps}
 

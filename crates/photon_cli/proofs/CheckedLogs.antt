@@ -6,17 +6,6 @@ use Rattle.log_records.specs.Check.{Refuses}
 use Rattle.photon_cli.specs.declared.log_check.step.Step.TheVariants as step
 use Rattle.photon_cli.proofs.LogCuts.{first_or_none, take_line, behind_front, length-whole}
 
-kept_push : (keep : Bool) (ids : List EventId) (id : EventId) → kept keep ids ++ (if keep then id ∷ [] else []) ≡ kept keep (ids ++ id ∷ [])
-kept_push true ids id = refl
-kept_push false ids id = refl
-
-kept_none : (keep : Bool) → [] ≡ kept keep []
-kept_none true = refl
-kept_none false = refl
-
-pub not_memory : (line : ℕ) (w : Why) (bad : BadLine) → (bad ≡ record { line = line; why = w }) × (w ≢ why.Memory) → bad.why ≢ why.Memory
-not_memory line w bad is memory = is.1 (sym (ap (λ (b : BadLine). b.why) is.0) ∙ memory)
-
 module _ {R : Type 0} (line_of : R → List ℕ) (IsRecord : R → Type 0) (id_of : R → EventId) where
   -- the lines before the place, which were counted, and whose ids were kept
   pub record Before (keep : Bool) (log : List ℕ) (place : ℕ) (places : Places) (count : ℕ) (ids : List EventId) (rs : List R) : Type 0 where
@@ -26,7 +15,7 @@ module _ {R : Type 0} (line_of : R → List ℕ) (IsRecord : R → Type 0) (id_o
     pub ids_are : ids ≡ kept keep (map id_of rs)
 
   pub starts : (keep : Bool) (log : List ℕ) (place : ℕ) (places : Places) (ids : List EventId) → place ≡ 0 → ((k : EventId) → place_at places k ≡ None) → ids ≡ [] → Before keep log place places 0 ids []
-  starts keep log place places ids at empty none = grind (arith, kept_none)
+  starts keep log place places ids at empty none = grind arith
 
   few_lines : (log : List ℕ) (place : ℕ) (rs : List R) → SoFar line_of IsRecord id_of log place rs → length rs ≤ MAX_LOG
   few_lines log place rs so_far = omega (arith, so_far.at, so_far.fits, length-whole (map line_of rs), length-map rs line_of)
@@ -42,15 +31,14 @@ module _ {R : Type 0} (line_of : R → List ℕ) (IsRecord : R → Type 0) (id_o
 
     pub one_more_line : (keep : Bool) (log : List ℕ) (place place' : ℕ) (old new : Places) (count : ℕ) (ids ids' : List EventId) (id : EventId) (rs : List R) → Before keep log place old count ids rs → IsStep line_of IsRecord id_of LineWhy log place' new rs (step.Line id) → ids' ≡ ids ++ (if keep then id ∷ [] else [])
         → (xs : List R) × Before keep log place' new (count + 1) ids' xs
-    one_more_line keep log place place' old new count ids ids' id rs before h ids_is = grind (arith, length-append, kept_push, kept, map_push)
+    one_more_line keep log place place' old new count ids ids' id rs before h ids_is = grind (arith, length-append, kept, map_push)
 
     refuses : (log : List ℕ) (place : ℕ) (rs : List R) (count : ℕ) (w : Why) (bad : BadLine) → SoFar line_of IsRecord id_of log place rs → count ≡ length rs → bad ≡ record { line = count + 1; why = w } → NextWhy line_of IsRecord id_of LineWhy log rs w → Refuses line_of IsRecord id_of LineWhy log bad
     refuses log place rs count w bad so_far counted is told = grind arith
 
     -- the next line is refused
     pub refuses_next : (keep : Bool) (log : List ℕ) (place : ℕ) (places : Places) (count : ℕ) (ids : List EventId) (rs : List R) (w : Why) (bad : BadLine) → Before keep log place places count ids rs → OrMemory (WrongNext line_of IsRecord id_of LineWhy log rs) w → (bad ≡ record { line = count + 1; why = w }) × (w ≢ why.Memory) → Refuses line_of IsRecord id_of LineWhy log bad
-    refuses_next keep log place places count ids rs w bad before (inl memory) is = absurd (is.1 memory)
-    refuses_next keep log place places count ids rs w bad before (inr (line, after, e, lacks, below, told)) is = refuses log place rs count w bad before.so_far before.counted is.0 (inl (line, after, e, lacks, inr (below, told)))
+    refuses_next keep log place places count ids rs w bad before h is = grind arith
 
     -- a line that ends behind the limit, or the rest of the log without an end
     big_next : (log : List ℕ) (place : ℕ) (rs : List R) → AtEnd line_of IsRecord id_of log place rs → MAX_LOG < length log → NextWhy line_of IsRecord id_of LineWhy log rs why.TooBig
@@ -117,8 +105,7 @@ clicks_end log cs end_ h is ls holds =
 -- ---- what the check of a log answers, by what it held when it was read
 
 pub queries_read : (o : Option (List ℕ)) (read : Lines) → IsSomeAnd o (λ b. (qs : List QueryRec) × IsChecked query_line IsQuery (λ q. q.id) false b qs read) → (qs : List QueryRec) × IsSomeAnd o (λ b. IsQueryLog b qs)
-queries_read None read h = absurd h
-queries_read (Some log) read (qs, h) = (qs, queries_found log qs h.holds)
+queries_read k read h = grind (arith, queries_found)
 
 -- the clicks, which have the ids that were kept, and the end of the last whole line
 pub clicks_read : (o now : Option (List ℕ)) (read : Lines) → now ≡ o → IsSomeAnd now (λ b. (cs : List ClickRec) × IsChecked click_line IsClick (λ c. c.id) true b cs read)

@@ -1,9 +1,8 @@
 -- Words that were taken for none, for want of memory: whatever they ask for, nothing was done.
 use Rattle.std.proofs.Common.{inl, inr, ◌≡◌, ◌++◌, ℕ, List, Bool, Option, IsTrue, refl, sym, subst, arith}
-use Rattle.photon_cli.proofs.Words.{continues_same, DiskName, StaysAs, Images, RunLog, BulkValues, Text, Values, Wish, a_bulk_run, a_drill, a_join, a_resharding, a_verification, BulkEnds, DrillEnds, Ends, IsNamedInBulk, IsNamedInDrill, JoinEnds, RunFault, VerifyEnds, message, status_of}
+use Rattle.photon_cli.proofs.Words.{continues_same, DiskName, StaysAs, Images, RunLog, BulkValues, Text, Values, Wish, a_bulk_run, a_drill, a_join, a_resharding, a_verification, BulkEnds, DrillEnds, Ends, IsNamedInBulk, IsNamedInDrill, JoinEnds, RunFault, VerifyEnds, message, status_of, ReshardEnds}
 use Rattle.photon_cli.specs.Told.{IsToldOf, IsToldOfVerify, TellsBy}
 use Rattle.run_fault.specs.declared.fault.RunFault.TheVariants as fault
-use Rattle.photon_cli.specs.Reshard.{ReshardEnds}
 use Rattle.photon_cli.proofs.Resharding.{ends, not_added, untaken}
 
 module _ (logs sinks disks : Bool) (told : List ℕ → Option (List ℕ)) (files output errors faulted : Type 0) (before : Images) (same unrun : Type 0) (ran : Option RunLog) (old err_old err_new : List ℕ) (status : ℕ)

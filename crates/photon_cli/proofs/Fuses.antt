@@ -1,17 +1,12 @@
 -- The fuses of one disk in a list of stops, and those that a plan has for it.
-use Rattle.std.proofs.Common.{arith}
-use Rattle.std.proofs.Common.{◌≡◌, ◌⊎◌, inl, inr, List, [], ◌∷◌, ◌++◌, Bool, true, false, ◌&&◌, if◌then◌else◌, refl, sym, ◌∙◌, ap, ℕ, ◌+◌, ◌<◌, length, get_or, drop, append_assoc}
+use Rattle.std.proofs.Common.{arith, ◌≡◌, List, [], ◌∷◌, ◌++◌, Bool, true, ◌&&◌, if◌then◌else◌, refl, sym, ◌∙◌, ap, ℕ, ◌+◌, ◌<◌, length, get_or, drop, append_assoc}
 use Rattle.photon_cli.proofs.Words.{drop_more, DiskName, Fuse, same_name, fuses_for, PlanStop, is_for, fuse_of, planned_for}
 use Rattle.mem_outside.specs.declared.store.Stop.{Stop}
-
-cases_bool : (b : Bool) → (b ≡ true) ⊎ (b ≡ false)
-cases_bool true = inl refl
-cases_bool false = inr refl
 
 -- one stop more
 fuses_push : (xs : List Stop) (stop : Stop) (name : DiskName) → fuses_for (xs ++ stop ∷ []) name ≡ fuses_for xs name ++ (if same_name stop.name name then stop.fuse ∷ [] else [])
 fuses_push [] stop name = refl
-fuses_push (x ∷ xs) stop name = grind (arith, cases_bool, same_name, fuses_push xs stop name)
+fuses_push (x ∷ xs) stop name = grind (arith, same_name, fuses_push xs stop name)
 
 -- one stop more, where the disk's place says whether it has this name
 pub pushed : (xs ys : List Stop) (found name : DiskName) (had fuse : Fuse) (named here : Bool) → ys ≡ xs ++ record { name = found; fuse = had } ∷ [] → had ≡ fuse → named ≡ true → same_name found name ≡ here
@@ -20,7 +15,7 @@ pushed xs ys found name had fuse named here more made is same = grind (arith, fu
 
 -- the first of the stops
 planned_first : (joiners : ℕ) (stop : PlanStop) (stops : List PlanStop) (name : DiskName) → planned_for joiners (stop ∷ stops) name ≡ (if is_for joiners stop name then fuse_of stop ∷ [] else []) ++ planned_for joiners stops name
-planned_first joiners stop stops name = grind (arith, cases_bool, is_for)
+planned_first joiners stop stops name = grind (arith, is_for)
 
 -- a stop is taken from those that are left
 pub taken : (joiners : ℕ) (stops : List PlanStop) (i : ℕ) (default : PlanStop) (name : DiskName) (made new all : List Fuse) → i < length stops

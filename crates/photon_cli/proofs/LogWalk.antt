@@ -1,6 +1,6 @@
 -- One line more of a log.
-use Rattle.std.proofs.Common.{◌≡◌, ◌≢◌, inl, inr, ℕ, ◌+◌, ◌<◌, ◌≤◌, Option, Some, None, Result, Ok, Err, List, [], ◌∷◌, ◌++◌, length, map, Contains, refl, sym, ap, subst, ◌∙◌, append_assoc, arith}
-use Rattle.photon_cli.proofs.Words.{MAX_LINE, AllByRecursion, IfOk, ReadFault, map-append, append-nil, length-append, Contains-push_cases, Contains-append_right, Lacks, split_same, lacks_none, Counts, behind, IsNext, EventId, Why, OrMemory, line_feed, whole, AreRecords, MAX_LOG, AfterWhy, one_more, Places, first_place, seen_of, Keeps, Step, SoFar, AtEnd, WrongNext, IsStep, length-one, found, none_found}
+use Rattle.std.proofs.Common.{◌≡◌, ◌≢◌, inl, inr, ℕ, ◌+◌, ◌<◌, ◌≤◌, Option, Some, None, List, [], ◌∷◌, ◌++◌, length, map, Contains, refl, sym, ap, subst, ◌∙◌, append_assoc, arith}
+use Rattle.photon_cli.proofs.Words.{MAX_LINE, AllByRecursion, map-append, append-nil, length-append, Contains-push_cases, Contains-append_right, Lacks, split_same, lacks_none, behind, IsNext, EventId, Why, OrMemory, line_feed, whole, AreRecords, MAX_LOG, one_more, Places, first_place, seen_of, Keeps, Step, SoFar, AtEnd, WrongNext, IsStep, length-one, found, none_found}
 use Rattle.tail_reader.specs.declared.tail.Next.TheVariants as next
 use Rattle.log_records.specs.declared.why.Why.TheVariants as why
 use Rattle.log_records.specs.declared.stream.Seen.TheVariants as seen
@@ -21,23 +21,6 @@ line_of_one : {R : Type 0} (line_of : R → List ℕ) (P : List ℕ → Type 0) 
 line_of_one line_of P [] r after h = h.0
 line_of_one line_of P (x ∷ xs) r after h = line_of_one line_of P xs r after h.1
 
--- a count over two calls, the first of which met no fault
-pub counts_on : (a b c : ℕ) (F : Type 0) → a ≤ b → Counts b c F → Counts a c F
-counts_on a b c F le h = record { later = omega (arith, h.later); rose = λ f. let rose = h.rose f in omega arith }
-
-pub counts_as : (a b : ℕ) (F G : Type 0) → (G → F) → Counts a b F → Counts a b G
-counts_as a b F G from h = record { later = h.later; rose = λ f. h.rose (from f) }
-
-pub counts_moved : (a a' b b' : ℕ) (F : Type 0) → a ≡ a' → b ≡ b' → Counts a b F → Counts a' b' F
-counts_moved a a' b b' F d e h = subst (λ (x : ℕ). Counts x b' F) d (subst (λ (y : ℕ). Counts a y F) e h)
-
--- a count that never fell, over calls that met no fault
-pub counts_none : (a b : ℕ) (F : Type 0) → a ≤ b → (F → ⊥) → Counts a b F
-counts_none a b F le none = record { later = le; rose = λ f. absurd (none f) }
-
-pub ok_no_err : {A B : Type 0} (x : A) (e : B) → Ok x ≡ Err e → ⊥
-ok_no_err x e is = absurd cc
-
 -- what is read where a line stands
 pub read_there : (log : List ℕ) (place p e : ℕ) (given there rest : List ℕ) → IsNext log place (next.Line p e) given → behind log place ≡ there ++ line_feed ∷ rest → Lacks line_feed there → there ≡ given
 read_there log place p e given there rest (same, end_is, short, lacks, (more, is)) at none = (split_same line_feed there rest given more none lacks (sym at ∙ is)).0
@@ -50,12 +33,10 @@ not_end log place p given there rest (same, none) at = lacks_none line_feed ther
 
 -- what is told of an id says what its first place is
 pub told_new : (o : Option ℕ) → seen.New ≡ seen_of o → o ≡ None
-told_new None e = refl
-told_new (Some p) e = absurd cc
+told_new h e = grind arith
 
 pub told_again : (o : Option ℕ) (q : ℕ) → seen.Again q ≡ seen_of o → o ≡ Some q
-told_again None q e = absurd cc
-told_again (Some p) q e = let same : q ≡ p = cc in ap Some (sym same)
+told_again h q e = grind arith
 
 module _ {R : Type 0} (line_of : R → List ℕ) (IsRecord : R → Type 0) (id_of : R → EventId) where
   -- among these records one has the id and the line
@@ -121,15 +102,11 @@ module _ {R : Type 0} (line_of : R → List ℕ) (IsRecord : R → Type 0) (id_o
     goes_on_again end_ line r s is_next valid is_line among same_id same_line = goes_on end_ line r is_next valid is_line (λ x with_x e. so_far.records.one x s with_x among (e ∙ sym same_id) ∙ same_line ∙ is_line)
 
     module _ (LineWhy : List ℕ → Why → Type 0) where
-      pub wrong_after : (end_ : ℕ) (line : List ℕ) (w : Why) → IsNext log place (next.Line place end_) line → AfterWhy line_of IsRecord id_of LineWhy rs line w → WrongNext line_of IsRecord id_of LineWhy log rs w
-      wrong_after end_ line w (same, end_is, short, lacks, (more, e)) told = let here = there line more e in (line, here.0, here.1, lacks, here.2, told)
-
       pub wrong_line : (end_ : ℕ) (line : List ℕ) (w : Why) → IsNext log place (next.Line place end_) line → OrMemory (LineWhy line) w → OrMemory (WrongNext line_of IsRecord id_of LineWhy log rs) w
-      wrong_line end_ line w is_next (inl memory) = inl memory
-      wrong_line end_ line w is_next (inr told) = inr (wrong_after end_ line w is_next (inl told))
+      wrong_line end_ line w is_next h = grind (arith, there)
 
       pub conflict : (end_ : ℕ) (line : List ℕ) (r s : R) → IsNext log place (next.Line place end_) line → IsRecord r → line ≡ line_of r → Contains rs s → id_of s ≡ id_of r → line_of s ≢ line → WrongNext line_of IsRecord id_of LineWhy log rs why.Conflict
-      conflict end_ line r s is_next valid is_line among same_id other = wrong_after end_ line why.Conflict is_next (inr ((s, r, among, valid, is_line, same_id, other), refl))
+      conflict end_ line r s is_next valid is_line among same_id other = grind (arith, there)
 
       pub long_line : (p e : ℕ) (line : List ℕ) → IsNext log place (next.Long p e) line → ((l : List ℕ) → MAX_LINE < length l → LineWhy l why.TooLong) → WrongNext line_of IsRecord id_of LineWhy log rs why.TooLong
       long_line p e line (same, (long, more, is, lacks, size, end_is)) law = let here = there long more is in (long, here.0, here.1, lacks, here.2, inl (law long size))
@@ -144,8 +121,3 @@ module _ {R : Type 0} (line_of : R → List ℕ) (IsRecord : R → Type 0) (id_o
     -- what the line that was read came to
     came : (to : Step) → Came log' to → (rs : List R) → SoFar line_of IsRecord id_of log place rs → Keeps line_of id_of old rs → IsStep line_of IsRecord id_of LineWhy log place' new rs to
     came to told rs so_far keeps = grind arith
-
-    pub line_came : (r : Result Step ReadFault) → IfOk r (λ to. (rs : List R) → IsNext log' p (next.Line p end_) line → SoFar line_of IsRecord id_of log' p rs → Keeps line_of id_of old rs → tail ≡ end_ → IsStep line_of IsRecord id_of LineWhy log' place' new rs to)
-        → IfOk r (λ to. (rs : List R) → SoFar line_of IsRecord id_of log place rs → Keeps line_of id_of old rs → IsStep line_of IsRecord id_of LineWhy log place' new rs to)
-    line_came (Ok to) told = came to told
-    line_came (Err e) told = tt

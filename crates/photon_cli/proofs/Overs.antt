@@ -1,7 +1,5 @@
 -- How a call ends over a store, from how its parts do.
-use Rattle.std.proofs.Common.{arith}
-use Rattle.std.specs.Prelude.{Result, Ok, Err}
-use Rattle.std.proofs.Common.{Option, Some, sym, subst}
+use Rattle.std.proofs.Common.{arith, Result, Ok, Err, Option, Some, sym, subst}
 use Rattle.photon_cli.proofs.Words.{IfErr-weaker, continues_same, EndsOver, Images, IsCauseOf, IsLate, IsRowFault, IsWelcome, LeavesSomething, RunFault, RunLog, Setting, TellsPlaces, Text, asked_of}
 use Rattle.photon_cli.proofs.Causing.{later_caused}
 use Rattle.run_fault.specs.declared.fault.RunFault.TheVariants as fault

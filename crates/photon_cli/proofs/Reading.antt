@@ -1,7 +1,6 @@
 -- Why a verification gives up, from what reading its store tells.
 use Rattle.std.proofs.Common.{◌≡◌, inl, inr, ℕ, ◌≤◌, List, Bool, IsTrue, Option, None, refl, subst, arith}
-use Rattle.std.specs.Prelude.{⊤}
-use Rattle.photon_cli.proofs.Words.{REPLICAS, StoreFault, Rose, added, DiskName, end_from, Setting, IsLogOf, Misplaced, RunFault, of_place, Images, KeptDisk, AreTold, HasCause, HasFailed, PassesFor, IsCause, IsUnread, KeptStore, IsRead, cause_more, failed_rose, passed_more, unread_rose, TellsPlaces, CanBeRead, HasCauseInVerify, IsFailedRead}
+use Rattle.photon_cli.proofs.Words.{⊤, REPLICAS, StoreFault, Rose, added, DiskName, end_from, Setting, IsLogOf, Misplaced, RunFault, of_place, Images, KeptDisk, AreTold, HasCause, HasFailed, PassesFor, IsCause, IsUnread, KeptStore, IsRead, cause_more, failed_rose, passed_more, unread_rose, TellsPlaces, CanBeRead, HasCauseInVerify, IsFailedRead}
 use Rattle.outside.specs.declared.faults.StoreFault.TheVariants as store
 
 -- ---- of a store that is read

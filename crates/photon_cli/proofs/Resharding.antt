@@ -1,5 +1,6 @@
 -- How a resharding ends at each fault.
 use Rattle.std.proofs.Common.{◌≡◌, ◌≢◌, ◌⊎◌, inl, inr, ⊎_elim, ◌++◌, ℕ, List, Bool, true, None, Result, Ok, Err, IsTrue, codes, refl, sym, ap, subst, ◌∙◌, arith}
+use Rattle.photon_cli.proofs.Words.{REPLICAS, DiskName, Images, IsSoundStore, KeptValues, HasCause, HasFailed, Setting, ShardRow, StorePlace, StoreFault, RunFault, Text, Topology, Unfit, LeavesSomething, cause_more, failed_rose, first_limit, goes_on_through, goes_on_within, kept_are_journals, message, of_place, sound_placed, status_of, unasked, TookPrefix, HasRow, IsCauseFor, IsRowOf, ReshardEnds}
 use Rattle.outside.specs.declared.store.DiskName.TheVariants as name
 use Rattle.run_fault.specs.declared.fault.RunFault.TheVariants as fault
 use Rattle.list_words.proofs.Lists.{each_more}
@@ -11,10 +12,8 @@ use Rattle.site_store.specs.Records.{AreKept}
 use Rattle.site_store.specs.Written.{IsWritten}
 use Rattle.site_store.proofs.Added.{unchanged}
 use Rattle.site_store.proofs.Damage.{no_damage}
-use Rattle.photon_cli.proofs.Words.{REPLICAS, DiskName, Images, IsSoundStore, KeptValues, HasCause, HasFailed, Setting, ShardRow, StorePlace, StoreFault, RunFault, Text, Topology, Unfit, LeavesSomething, cause_more, failed_rose, first_limit, goes_on_through, goes_on_within, kept_are_journals, message, of_place, sound_placed, status_of, unasked}
 use Rattle.outside.specs.declared.faults.StoreFault.TheVariants as store
-use Rattle.report_text.specs.Stream.{TookPrefix}
-use Rattle.photon_cli.specs.Reshard.{Adds, HasOwnRow, HasRow, IsCauseFor, IsForbidden, IsNamedInReshard, IsRowOf, LeftAt, ReshardEnds}
+use Rattle.photon_cli.specs.Reshard.{Adds, HasOwnRow, IsForbidden, IsNamedInReshard, LeftAt}
 use Rattle.site_store.specs.Refusals.{IsFirstDisk}
 use Rattle.photon_cli.proofs.Statuses.{damaged_of, failed_of, line_of, mismatch_of, no_one, no_zero, place_of, two_of, write_of}
 

@@ -1,18 +1,13 @@
 -- The words of this crate's proofs: what they take from its definitions and from the crates below, under one name each.
 pub use Rattle.air_bus.specs.Waiting.{is_dead}
-pub use Rattle.clap.specs.Faults.{fault_of}
-pub use Rattle.clap.specs.Simple.{subcommand_of}
 pub use Rattle.clap.specs.Walk.{Row}
 pub use Rattle.command_words.proofs.Levels.{plain_gives}
 pub use Rattle.command_words.proofs.Read.{same_command}
 pub use Rattle.command_words.proofs.Walks.{first_given, one_given, pair_rows}
-pub use Rattle.command_words.specs.Clap.{number_in, photon_app, text_in}
-pub use Rattle.photon_cli.specs.Terms.{AfterWhy, AreRecords, AskFor, BadLine, BulkValues, Checked, ClickLine, ClickRec, Clicks, Counts, DiskKind, DiskName, EndsOver, Epoch, EventId, Field, GoesOn, HasCause, Images, IsCauseOf, IsClickLog, IsFound, IsLog, IsLogOf, IsPlain, IsPlanOf, IsQueryLog, IsSoundStore, IsTable, IsWelcome, Joins, JoinsAfresh, Keeps, KeptValues, Lacks, LeavesSomething, LogName, MAX_LOG, Output, Pairs, Places, PlanStop, PlanView, Queries, QueryRec, RanAfresh, RefusesClick, RefusesQuery, ReportLine, Rose, RunFault, RunLeft, RunLog, Setting, ShardRow, StaysAs, StorePlace, TellsPlaces, Text, TookPrefix, Topology, U, Values, Why, Wish, a_bulk_run, a_drill, a_join, a_resharding, a_verification, asked_of, behind, bulk_values, command_of, distinct, end_from, first_limit, fuses_for, given, is_missing, is_planned, line_feed, message, placed, same_name, size_limit, status_of, text_of, texts, values_in, whole}
+pub use Rattle.photon_cli.specs.Terms.{AfterWhy, AllInAll, AreRecords, AskFor, AtMost, BadLine, BulkValues, Checked, ClickLine, ClickRec, Clicks, Config, Counts, DiskKind, DiskName, Each, EndsOver, Epoch, EventId, Field, Fuse, GoesOn, HasCause, Images, IsCauseOf, IsClickLog, IsFound, IsLog, IsLogOf, IsNext, IsOutputOnce, IsPlain, IsPlanOf, IsQueryLog, IsSettingOf, IsSoundStore, IsTable, IsWelcome, Joins, JoinsAfresh, Journals, Keeps, KeepsTopology, KeptStore, Topology as KeptTopology, KeptValues, Lacks, LeavesSomething, LogName, MAX_LINE, MAX_LOG, Node, Output, Pairs, Places, PlanStop, PlanView, Queries, QueryRec, RanAfresh, RefusesClick, RefusesQuery, ReportLine, Rose, RunFault, RunLeft, RunLog, Setting, ShardRow, StaysAs, StopsAsPlanned, StorePlace, Tells, TellsPlaces, Text, TookPrefix, Topology, U, Values, Why, Wish, WordsFault, a_bulk_run, a_drill, a_join, a_resharding, a_verification, asked_of, behind, bulk_values, bytes_under, command_of, distinct, end_from, fault_of, first_limit, fuses_for, given, is_missing, is_planned, line_feed, message, names_of, number_in, photon_app, placed, same_name, size_limit, status_of, subcommand_of, text_in, text_of, texts, values_in, whole}
 pub use Rattle.command_words.specs.Words.{IsRefusedBy, name_of, wish_of, wish_by}
-pub use Rattle.command_words.specs.declared.asked.WordsFault.{WordsFault}
 pub use Rattle.gate_journal.proofs.Growth.{continues_same}
 pub use Rattle.list_words.proofs.Splits.{lacks_none, split_same}
-pub use Rattle.list_words.specs.Lists.{Each}
 pub use Rattle.log_records.proofs.FirstPlaces.{found, length-one, none_found}
 pub use Rattle.log_records.proofs.Places.{lines_follow}
 pub use Rattle.log_records.proofs.Reading.{clicks_same, one_more, queries_same}
@@ -22,14 +17,10 @@ pub use Rattle.log_records.specs.FirstPlaces.{first_place, place_at, seen_of}
 pub use Rattle.log_records.specs.Line.{IsClick, IsQuery, OrMemory, click_line, query_line}
 pub use Rattle.log_records.specs.Log.{HoldsClicks, HoldsQueries}
 pub use Rattle.log_records.specs.Report.{totals}
-pub use Rattle.log_records.specs.declared.lines.TheConstants.{MAX_LINE}
 pub use Rattle.lossy_link.proofs.Outcomes.{one_outcome}
 pub use Rattle.lossy_link.specs.Outcome.{Outcome, bad, good}
 pub use Rattle.lossy_link.specs.Plans.{HasOutcome, IsFault, IsFirstBad}
-pub use Rattle.mem_outside.specs.Files.{bytes_under}
-pub use Rattle.mem_outside.specs.declared.disk.Fuse.{Fuse}
 pub use Rattle.outside.specs.Faults.{added}
-pub use Rattle.outside.specs.Plans.{AtMost}
 pub use Rattle.outside.specs.declared.faults.ReadFault.{ReadFault}
 pub use Rattle.outside.specs.declared.faults.StoreFault.{StoreFault}
 pub use Rattle.paxos_acceptor.specs.Cells.{note_view}
@@ -41,9 +32,10 @@ pub use Rattle.photon_cli.specs.Drill.{Drills, IsBadIn, IsDrilled, SparesNodes}
 pub use Rattle.photon_cli.specs.Ends.{AreObeyed, BulkEnds, DrillEnds, Ends, JoinEnds, VerifyEnds}
 pub use Rattle.photon_cli.specs.Faults.{words_status}
 pub use Rattle.photon_cli.specs.Join.{AreLogs, AreValid, BeginsJoin, HaveIds, IsAsked, IsHeardOf, IsHistory, IsInvalid, Refuses, config_of, no_plan}
-pub use Rattle.photon_cli.specs.LogFaults.{IsBeforeLogs, IsEarly, IsFailedRead, IsLogFault, IsOfBulk, IsOfDrill, IsOfJoin, IsOfLogs, IsOfPlanOrLogs, IsOfRun, IsOfVerify, IsPast, IsPlanFault, IsRowFault, failed_read}
+pub use Rattle.photon_cli.specs.LogFaults.{IsBeforeLogs, IsEarly, IsFailedRead, IsLogFault, IsNamedBy, IsOfDrill, IsOfLogs, IsOfPlanOrLogs, IsOfRun, IsOfVerify, IsPast, IsPlanFault, IsRowFault, OfClicks, failed_read}
 pub use Rattle.photon_cli.specs.Planned.{StopsAtMost, fuse_of, is_at, is_for, is_joiners, named_by, of_joiners, place_of, planned_for, same_kind}
 pub use Rattle.photon_cli.specs.ReadLines.{AtEnd, IsStep, SoFar, WrongNext}
+pub use Rattle.photon_cli.specs.Reshard.{HasRow, IsCauseFor, IsRowOf, ReshardEnds}
 pub use Rattle.photon_cli.specs.Status.{IsAnswered}
 pub use Rattle.photon_cli.specs.Told.{IsNamed, IsNamedInBulk, IsNamedInDrill, IsNamedInVerify}
 pub use Rattle.photon_cli.specs.Verify.{IsReadFrom, IsReadable, IsTold, IsUnreadable, PrintsKept}
@@ -53,7 +45,6 @@ pub use Rattle.photon_cli.specs.declared.log_check.check.CheckFault.{CheckFault}
 pub use Rattle.photon_cli.specs.declared.log_check.lines.Lines.{Lines}
 pub use Rattle.photon_cli.specs.declared.log_check.step.Step.{Step}
 pub use Rattle.photon_model.specs.EveryRun.{AfterEveryRun}
-pub use Rattle.photon_model.specs.Headline.{IsOutputOnce}
 pub use Rattle.photon_model.specs.Stores.{ReadIsChecked}
 pub use Rattle.registry_state.specs.Same.{same_batch}
 pub use Rattle.run_fault.specs.Faults.{of_place}
@@ -68,10 +59,7 @@ pub use Rattle.site_run.proofs.Outing.{goes_on_through, goes_on_within, stays_go
 pub use Rattle.site_run.proofs.Refusing.{kept_are_journals}
 pub use Rattle.site_run.proofs.Planning.{all_earlier, none_of_joiners, stops_earlier}
 pub use Rattle.site_run.specs.Heard.{kinds_of}
-pub use Rattle.site_run.specs.Naming.{names_of}
-pub use Rattle.site_run.specs.Stops.{AllInAll, StopsAsPlanned}
 pub use Rattle.site_run.specs.Over.{Keeps as KeepsOver, RunsOver}
-pub use Rattle.site_run.specs.Asked.{IsSettingOf}
 pub use Rattle.site_run.specs.Left.{RestLeft}
 pub use Rattle.site_run.specs.Meaning.{AreLinesBy, RestJoins, RestJoinsAfresh, RestRanAfresh}
 pub use Rattle.site_run.specs.Refused.{IsLate}
@@ -83,8 +71,6 @@ pub use Rattle.site_store.specs.Leaving.{IsAsked as HasTopology}
 pub use Rattle.site_store.specs.Misfits.{IsFitFor, limit_at, limit_in}
 pub use Rattle.site_store.specs.Reading.{IsRead}
 pub use Rattle.site_store.specs.Records.{EpochIs, IsKept, KeepsAs, Kept, KeptDisk, NotesAre}
-pub use Rattle.site_store.specs.Telling.{Tells}
-pub use Rattle.site_store.specs.declared.reading.kept.KeptStore.{KeptStore}
 pub use Rattle.std.proofs.Math.Seq.{take-add, take-append-add}
 pub use Rattle.std.proofs.lemmas.Bool.{cases_Bool, cases_lt, eqb-true}
 pub use Rattle.std.proofs.lemmas.Bool.Decides.{Decides-eqb, nat_tests}
@@ -94,14 +80,9 @@ pub use Rattle.std.proofs.lemmas.Result.{IfErr-weaker, IfOk-weaker, err_from_is_
 pub use Rattle.std.proofs.lemmas.Slice.Eq.{slice_eq-Decides}
 pub use Rattle.std.specs.List.{AllByRecursion, flat_map, list_any}
 pub use Rattle.std.specs.Option.{IfSome, IsSomeAnd}
+pub use Rattle.std.specs.Prelude.{⊤}
 pub use Rattle.std.specs.Result.{IfOk}
-pub use Rattle.tail_reader.specs.Next.{IsNext}
 pub use Rattle.time_shards.proofs.Texts.{none_bad, only_table}
 pub use Rattle.time_shards.specs.Shards.{shard_of}
-pub use Rattle.topology_journal.specs.Topologies.{Keeps as KeepsTopology}
-pub use Rattle.topology_journal.specs.declared.topology.Topology.{Topology as KeptTopology}
-pub use Rattle.turn_defs.specs.declared.node.Node.{Node}
 pub use Rattle.turn_defs.specs.declared.pair.PairRec.{PairRec}
-pub use Rattle.turn_defs.specs.declared.config.Config.{Config}
 pub use Rattle.verify_pass.specs.Classes.{first_pair, line_by, line_of}
-pub use Rattle.verify_pass.specs.declared.journals.Journals.{Journals}

@@ -1,8 +1,7 @@
 -- Call after call over one store.
 use Rattle.std.specs.Prelude.{◌≡◌, ◌≢◌, ◌⊎◌, ℕ, List, [], ◌∷◌, Bool, IsTrue, Option, ⊤}
-use Rattle.photon_cli.specs.Terms.{Bytes, Disks, HoldsRecords, Images, IsChoice, Setting, ShardRow, Wish, a_join, a_resharding, opening}
+use Rattle.photon_cli.specs.Terms.{Bytes, Disks, HoldsRecords, Images, IsChoice, IsOutputOnce, Setting, ShardRow, Wish, a_join, a_resharding, opening}
 use Rattle.photon_model.specs.Adding.{with_row}
-use Rattle.photon_model.specs.Headline.{IsOutputOnce}
 use Rattle.photon_model.specs.Stores.{IsLonger}
 use Rattle.site_run.specs.Over.{Keeps}
 use Rattle.photon_cli.specs.Join.{IsAsked}

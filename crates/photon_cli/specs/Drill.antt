@@ -1,14 +1,10 @@
 -- What a drill does: both sites run over disks in memory that hold nothing at first, and a plan says what goes wrong.
 use Rattle.std.specs.Prelude.{ℕ, ◌≡◌, ◌≤◌, Bool, false, List, ◌++◌, map, Option, IfSome, IsSomeAnd, IsTrue}
 use Rattle.std.specs.List.{list_any}
-use Rattle.list_words.specs.Lists.{Each}
-use Rattle.photon_cli.specs.Terms.{ClickLine, Field, IsPlanOf, PlanStop, PlanView, RanAfresh, ReportLine, RunLog, Setting, ShardRow, Text, TookPrefix, Values}
+use Rattle.photon_cli.specs.Terms.{AllInAll, ClickLine, Each, Field, IsPlanOf, Node, PlanStop, PlanView, RanAfresh, ReportLine, RunLog, Setting, ShardRow, StopsAsPlanned, Text, TookPrefix, Values, names_of}
 use Rattle.lossy_link.specs.Plans.{IsFirstBad}
 use Rattle.log_records.specs.Report as logs
-use Rattle.turn_defs.specs.declared.node.Node.{Node}
 use Rattle.photon_cli.specs.Planned.{StopsAtMost, is_joiners}
-use Rattle.site_run.specs.Naming.{names_of}
-use Rattle.site_run.specs.Stops.{AllInAll, StopsAsPlanned}
 use Rattle.photon_cli.specs.Join.{AreValid, IsAsked, IsHeardOf, config_of}
 use Rattle.photon_cli.specs.Words.{HasTable}
 

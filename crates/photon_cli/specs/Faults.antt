@@ -1,6 +1,6 @@
 -- The exit status of words that aren't read.
 use Rattle.std.specs.Prelude.{ℕ}
-use Rattle.command_words.specs.declared.asked.WordsFault.{WordsFault}
+use Rattle.photon_cli.specs.Terms.{WordsFault}
 use Rattle.command_words.specs.declared.asked.WordsFault.TheVariants as words_fault
 
 abbrev pub words_status : WordsFault → ℕ

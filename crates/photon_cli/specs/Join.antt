@@ -1,9 +1,7 @@
 -- What a join of two logs over a store does.
 use Rattle.std.specs.Prelude.{ℕ, ◌≡◌, List, [], ◌++◌, map, Bool, Option, None, IfSome, IsSomeAnd, IsTrue}
-use Rattle.photon_cli.specs.Terms.{BadLine, ClickLine, ClickRec, Clicks, EventId, Images, IsClickLog, IsQueryLog, IsSoundStore, Joins, JoinsAfresh, LogName, NodeValues, PlanView, Queries, QueryRec, RefusesClick, RefusesQuery, ReportLine, RunLeft, RunLog, Setting, ShardRow, TookPrefix, Values, end_from, text_of}
-use Rattle.turn_defs.specs.declared.config.Config.{Config}
+use Rattle.photon_cli.specs.Terms.{BadLine, ClickLine, ClickRec, Clicks, Config, EventId, Images, IsClickLog, IsQueryLog, IsSettingOf, IsSoundStore, Joins, JoinsAfresh, LogName, NodeValues, PlanView, Queries, QueryRec, RefusesClick, RefusesQuery, ReportLine, RunLeft, RunLog, Setting, ShardRow, TookPrefix, Values, end_from, text_of}
 use Rattle.site_laws.specs.StoreLaws.{LeavesNothing}
-use Rattle.site_run.specs.Asked.{IsSettingOf}
 use Rattle.site_run.specs.Heard as site
 use Rattle.photon_cli.specs.Words.{HasTable, IsTextOf}
 use Rattle.photon_cli.specs.declared.engine.run.TheConstants.{REPLICAS}

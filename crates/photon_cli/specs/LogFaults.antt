@@ -1,6 +1,6 @@
 -- Why a command gives up.
 use Rattle.std.specs.Prelude.{ℕ, ◌≡◌, ◌⊎◌, ⊤}
-use Rattle.photon_cli.specs.Terms.{Field, IsCounted, IsFirstBad, LogName, Queries, RunFault, Text, Why}
+use Rattle.photon_cli.specs.Terms.{BadLine, Clicks, Field, IsCounted, IsFirstBad, LogName, Queries, RunFault, Text, Why}
 use Rattle.run_fault.specs.declared.fault.RunFault.TheVariants as fault
 use Rattle.photon_cli.specs.Words.{HasTable}
 
@@ -24,14 +24,19 @@ IsEarly behind shards f = IsRowFault shards f ⊎ (HasTable shards × behind f)
 abbrev pub IsOfLogs : RunFault → Type 0
 IsOfLogs f = (log : LogName) × IsLogFault log f
 
+-- What a fault names is so: a row, a place of the plan, a line, a log that couldn't be read, the plan's file. One that adds no row is told.
+abbrev pub IsNamedBy : (row : ℕ → Type 0) (place : Field → Type 0) (line : LogName → BadLine → Type 0) (read : LogName → Type 0) (file : Type 0) → RunFault → Type 0
+IsNamedBy row place line read file (fault.Table n) = row n
+IsNamedBy row place line read file (fault.Plan at) = place at
+IsNamedBy row place line read file (fault.Refused log n w) = line log (record { line = n; why = w })
+IsNamedBy row place line read file (fault.Read log) = read log
+IsNamedBy row place line read file fault.PlanRead = file
+IsNamedBy row place line read file (fault.Reshard u) = ⊥
+IsNamedBy row place line read file _ = ⊤
+
 -- what may be told behind all that comes before the run
 abbrev pub IsPast : RunFault → Type 0
-IsPast (fault.Table row) = ⊥
-IsPast (fault.Plan place) = ⊥
-IsPast (fault.Refused log line w) = ⊥
-IsPast fault.PlanRead = ⊥
-IsPast (fault.Reshard u) = ⊥
-IsPast _ = ⊤
+IsPast = IsNamedBy (λ row. ⊥) (λ place. ⊥) (λ log line. ⊥) (λ log. ⊤) ⊥
 
 -- ---- of a drill
 
@@ -67,29 +72,12 @@ IsOfDrill stops _ = ⊤
 abbrev pub IsOfRun : RunFault → Type 0
 IsOfRun f = IsCounted ⊤ ⊤ f
 
--- a join has no plan, and adds no row
-abbrev pub IsOfJoin : RunFault → Type 0
-IsOfJoin (fault.Plan place) = ⊥
-IsOfJoin fault.PlanRead = ⊥
-IsOfJoin (fault.Reshard u) = ⊥
-IsOfJoin _ = ⊤
-
--- ---- of a bulk run: its logs are valid, it has no plan of a file, and adds no row
-
-abbrev pub IsOfBulk : RunFault → Type 0
-IsOfBulk (fault.Plan place) = ⊥
-IsOfBulk (fault.Refused log line w) = ⊥
-IsOfBulk fault.PlanRead = ⊥
-IsOfBulk (fault.Reshard u) = ⊥
-IsOfBulk _ = ⊤
-
 -- ---- of a verification: it has neither a table, nor a plan, nor queries, and adds no row
 
+-- it is of the clicks' log, where this is so
+abbrev pub OfClicks : Type 0 → LogName → Type 0
+OfClicks P Queries = ⊥
+OfClicks P Clicks = P
+
 abbrev pub IsOfVerify : RunFault → Type 0
-IsOfVerify (fault.Table row) = ⊥
-IsOfVerify (fault.Plan place) = ⊥
-IsOfVerify (fault.Refused Queries line w) = ⊥
-IsOfVerify (fault.Read Queries) = ⊥
-IsOfVerify fault.PlanRead = ⊥
-IsOfVerify (fault.Reshard u) = ⊥
-IsOfVerify _ = ⊤
+IsOfVerify = IsNamedBy (λ row. ⊥) (λ place. ⊥) (λ log line. OfClicks ⊤ log) (OfClicks ⊤) ⊥

@@ -1,9 +1,7 @@
 -- The stops that a plan has for a disk.
 use Rattle.std.specs.Prelude.{ℕ, ◌+◌, ◌*◌, ◌==◌, ◌&&◌, nat_lt, Bool, true, false, if◌then◌else◌, List, map, filter, Option, Some, None}
-use Rattle.photon_cli.specs.Terms.{DiskKind, DiskName, Epoch, Offset, Output, PlanStop, Replica, Retry, Server, is_planned}
+use Rattle.photon_cli.specs.Terms.{AtMost, DiskKind, DiskName, Epoch, Fuse, Offset, Output, PlanStop, Replica, Retry, Server, is_planned}
 use Rattle.outside.specs.declared.store.DiskName.TheVariants as name
-use Rattle.outside.specs.Plans.{AtMost}
-use Rattle.mem_outside.specs.declared.disk.Fuse.{Fuse}
 use Rattle.photon_cli.specs.declared.engine.run.TheConstants.{REPLICAS}
 
 abbrev pub same_kind : DiskKind → DiskKind → Bool

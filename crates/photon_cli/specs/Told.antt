@@ -1,10 +1,10 @@
 -- What the program tells on standard error.
 use Rattle.std.specs.Prelude.{ℕ, ◌≡◌, ◌⊎◌, List, ◌++◌, Bool, IsTrue, Option, IfSome, IsSomeAnd, ⊤}
-use Rattle.photon_cli.specs.Terms.{BulkValues, Clicks, Images, IsCauseOf, IsFirstBad, NamesFailed, Queries, RefusesClick, RunFault, RunLog, Setting, Text, Values, message, status_of}
-use Rattle.run_fault.specs.declared.fault.RunFault.TheVariants as fault
+use Rattle.photon_cli.specs.Terms.{BulkValues, Images, IsCauseOf, IsFirstBad, NamesFailed, RefusesClick, RunFault, RunLog, Setting, Text, Values, message, status_of}
 use Rattle.photon_cli.specs.Drill.{IsBadIn}
 use Rattle.photon_cli.specs.Causes.{HasCauseInVerify, IsOverLog}
 use Rattle.photon_cli.specs.Join.{IsAsked, Refuses}
+use Rattle.photon_cli.specs.LogFaults.{IsNamedBy, OfClicks}
 
 -- nothing is told at status 0, else the text of a fault of this status that is named so
 abbrev pub TellsBy : (RunFault → Type 0) → ℕ → List ℕ → List ℕ → Type 0
@@ -15,12 +15,7 @@ module _ (told : List ℕ → Option (List ℕ)) where
   -- Of a join: a fault that names a line names the first that is refused, and one that names a row the table's first bad one. It
   -- has no plan, and adds no row.
   abbrev pub IsNamed : Values → RunFault → Type 0
-  IsNamed v (fault.Table row) = IsFirstBad v.nodes.shards row
-  IsNamed v (fault.Plan place) = ⊥
-  IsNamed v (fault.Refused log line w) = Refuses told v.queries v.clicks log (record { line = line; why = w })
-  IsNamed v fault.PlanRead = ⊥
-  IsNamed v (fault.Reshard u) = ⊥
-  IsNamed v _ = ⊤
+  IsNamed v = IsNamedBy (IsFirstBad v.nodes.shards) (λ place. ⊥) (Refuses told v.queries v.clicks) (λ log. ⊤) ⊥
 
   -- and where the disks tell what they hold it has its cause, whatever setting the values ask for, and what it names has failed by the history
   -- of a run that began
@@ -30,22 +25,11 @@ module _ (told : List ℕ → Option (List ℕ)) where
 
   -- the same of a drill, and one that names a place of the plan names its first bad one
   abbrev pub IsNamedInDrill : Values → Text → RunFault → Type 0
-  IsNamedInDrill v file (fault.Table row) = IsFirstBad v.nodes.shards row
-  IsNamedInDrill v file (fault.Plan place) = IsBadIn told file place
-  IsNamedInDrill v file (fault.Refused log line w) = Refuses told v.queries v.clicks log (record { line = line; why = w })
-  IsNamedInDrill v file (fault.Reshard u) = ⊥
-  IsNamedInDrill v file _ = ⊤
+  IsNamedInDrill v file = IsNamedBy (IsFirstBad v.nodes.shards) (IsBadIn told file) (Refuses told v.queries v.clicks) (λ log. ⊤) ⊤
 
   -- of a verification, which has neither a table, nor a plan, nor queries
   abbrev pub IsNamedInVerify : Text → RunFault → Type 0
-  IsNamedInVerify clicks (fault.Table row) = ⊥
-  IsNamedInVerify clicks (fault.Plan place) = ⊥
-  IsNamedInVerify clicks (fault.Refused Queries line w) = ⊥
-  IsNamedInVerify clicks (fault.Refused Clicks line w) = IsSomeAnd (told clicks) (λ log. RefusesClick log (record { line = line; why = w }))
-  IsNamedInVerify clicks (fault.Read Queries) = ⊥
-  IsNamedInVerify clicks fault.PlanRead = ⊥
-  IsNamedInVerify clicks (fault.Reshard u) = ⊥
-  IsNamedInVerify clicks _ = ⊤
+  IsNamedInVerify clicks = IsNamedBy (λ row. ⊥) (λ place. ⊥) (λ log bad. OfClicks (IsSomeAnd (told clicks) (λ bytes. RefusesClick bytes bad)) log) (OfClicks ⊤) ⊥
 
   -- and where the disks tell what they hold it has its cause, whatever setting is over the log
   abbrev pub IsToldOfVerify : Text → (disks : Bool) → Images → (files faulted : Type 0) → RunFault → Type 0
@@ -53,9 +37,4 @@ module _ (told : List ℕ → Option (List ℕ)) where
 
 -- of a bulk run, which reads no file
 abbrev pub IsNamedInBulk : BulkValues → RunFault → Type 0
-IsNamedInBulk v (fault.Table row) = IsFirstBad v.nodes.shards row
-IsNamedInBulk v (fault.Plan place) = ⊥
-IsNamedInBulk v (fault.Refused log line w) = ⊥
-IsNamedInBulk v fault.PlanRead = ⊥
-IsNamedInBulk v (fault.Reshard u) = ⊥
-IsNamedInBulk v _ = ⊤
+IsNamedInBulk v = IsNamedBy (IsFirstBad v.nodes.shards) (λ place. ⊥) (λ log bad. ⊥) (λ log. ⊤) ⊥

@@ -2,14 +2,10 @@
 use Rattle.std.specs.Prelude.{ℕ, ◌≡◌, List, ◌++◌, map, Bool, None, Some, Option, IsSomeAnd}
 use Rattle.std.specs.List.{list_any}
 use Rattle.outside.specs.declared.store.DiskName.TheVariants as name
-use Rattle.photon_cli.specs.Terms.{AreLeft, ClickRec, Images, IsClickLog, IsKeptIn, IsLogOf, ReportLine, Setting, Text, TookPrefix, Topology, U, distinct, is_missing, text_of}
-use Rattle.topology_journal.specs.Topologies.{Keeps as KeepsTopology}
+use Rattle.photon_cli.specs.Terms.{AreLeft, ClickRec, Images, IsClickLog, IsKeptIn, IsLogOf, Journals, KeepsTopology, KeptStore, ReportLine, Setting, Tells, Text, TookPrefix, Topology, U, distinct, is_missing, text_of}
 use Rattle.photon_model.specs.Report.{report}
 use Rattle.photon_model.specs.Topology.{Store}
 use Rattle.photon_model.specs.Verification.{AreOf}
-use Rattle.site_store.specs.declared.reading.kept.KeptStore.{KeptStore}
-use Rattle.site_store.specs.Telling.{Tells}
-use Rattle.verify_pass.specs.declared.journals.Journals.{Journals}
 use Rattle.photon_cli.specs.declared.engine.run.TheConstants.{REPLICAS}
 
 -- the setting is over the clicks of this log, and has the topology that the store keeps

@@ -63,13 +63,10 @@ module _ {g : Setting} {dead : ℕ → Bool} {w : World} {air next : List Sent} 
         ⊎_elim
         (λ a. inr (inr (Server s, a.0, row_sent_to step (Server s) end (Joiner j) (Reply (insert_of f) a.0) (subst (λ t. Mem (Only (Joiner t), Reply (insert_of f) a.0) (server_row g s (w.servers s)).packets) tok a.1) refl)))
         (λ y. inr (inl ((server_row g s (w.servers s)).live, ended_own g w e (Server s) end, (shard g f.click.id, shard_below g f.click.id table, waits_left g ((server_row g s (w.servers s)).live.shards (shard g f.click.id)) y.0 y.1))))
-        there
+        (subst (Heard g s (w.servers s).kept l (insert_of f)) (sym (turned g w (Server s) l (Deliver from (Claim (insert_of f))) up o)) (insert_heard g s (w.servers s).kept l from (insert_of f) (ap (is_own_joiner g s) tok ∙ own_joiner g j is)))
       where
         s : ℕ
         s = site_of_joiner g j
-
-        there : Heard g s (w.servers s).kept l (insert_of f) (server_row g s (w.servers s))
-        there = subst (Heard g s (w.servers s).kept l (insert_of f)) (sym (turned g w (Server s) l (Deliver from (Claim (insert_of f))) up o)) (insert_heard g s (w.servers s).kept l from (insert_of f) (ap (is_own_joiner g s) tok ∙ own_joiner g j is))
 
     -- a flight that was there before goes on
     moves : (j : ℕ) (is : IsJoiner g j) (f : Flight) → f.token.joiner ≡ j → (l : JoinerLive) → (w.joiners j).live ≡ Some l → Mem f l.flight → SitesUp w → GoesOn g w air (e ∷ es) j f → GoesOn g (after g w e) next es j f

@@ -1,17 +1,16 @@
 -- An idle interval that begins with work left ends with a server held, by a promise that is older than the interval.
 use Rattle.std.proofs.Common.{◌≡◌, ◌⊎◌, inl, inr, ⊎_elim, ℕ, zero, suc, ◌+◌, ◌*◌, ◌<◌, ◌≤◌, Bool, true, false, not, ◌||◌, List, [], length, Some, None, refl, sym, ap, ◌∙◌, subst, arith, Option}
-use Rattle.progress_laws.proofs.Words.{true≢false, cases_Bool, cases_lt, or_left, or_right, Ballot, IsUpTo, Majority, upto_trans, not_above, Batch, Place, none_some, some_same, Setting, IsJoiner, first_joiner, shards, site_of_joiner, IsNode, Node, Dispatcher, Server, Replica, Joiner, Tick, Deliver, DispatcherLive, dispatcher_at_rest, JoinerLive, joiner_at_rest, ServerLive, ShardState, is_free, server_at_rest, AllFactsHold, World, Entry, Disks, world_after, opening, UpWith, IsAtRest, IsQuiet, Insert, each_at, known, IfUp, FlightHolds, JoinerHolds, WorldHolds, IsTable, IsIdle, is_left, next_of, promise_at, IsHeldAt, IsRefusedFrom, up_is}
+use Rattle.progress_laws.proofs.Words.{true≢false, cases_Bool, cases_lt, or_left, or_right, Ballot, Majority, upto_trans, not_above, Batch, Place, none_some, some_same, Setting, IsJoiner, first_joiner, shards, site_of_joiner, IsNode, Node, Dispatcher, Server, Replica, Joiner, Tick, Deliver, DispatcherLive, dispatcher_at_rest, JoinerLive, joiner_at_rest, ServerLive, ShardState, is_free, server_at_rest, AllFactsHold, World, Entry, Disks, world_after, opening, UpWith, IsAtRest, IsQuiet, Insert, each_at, known, WorldHolds, IsTable, IsIdle, is_left, next_of, promise_at, IsHeldAt, IsRefusedFrom, up_is}
 use Rattle.progress_laws.proofs.Moments.{opened_at, along_idle, Pending, quiet_closed, comes, SitesUp}
 use Rattle.progress_laws.proofs.Turning.{ballot_in, Same}
 use Rattle.progress_laws.proofs.Waiting.{IsLeftAt, still_left, server_waits}
 use Rattle.progress_laws.proofs.Lasting.{OfAllShards, HasCause, cause_kept, after_run}
-use Rattle.progress_laws.proofs.Claims.{HasOwnTokens, site_below}
+use Rattle.progress_laws.proofs.Claims.{site_below}
 use Rattle.progress_laws.proofs.Trying.{HasLines}
 use Rattle.progress_laws.proofs.Stalling.{Stalls, stalls}
 use Rattle.progress_laws.proofs.Refusing.{unfinished_at, no_attempt, every_attempt_open}
 use Rattle.progress_laws.proofs.Greatest.{UpTo, Promised, IsMade, MoreOfBoth, with_both}
 use Rattle.progress_laws.proofs.Dueling.{Duel, IsTrying, duel_goes_on, below_round, upto_round, raised}
-use Rattle.progress_laws.proofs.Rising.{IsPromiseUpTo}
 
 -- of all numbers below n P holds, or Q does
 every : (P : ℕ → Type 0) (Q : Type 0) (n : ℕ) → ((j : ℕ) → j < n → P j ⊎ Q) → ((j : ℕ) → j < n → P j) ⊎ Q
@@ -34,9 +33,6 @@ all_closed g dead w q (Replica r) is = ⊎_elim (λ out. q.silent r is out) (λ 
 
 -- what stands of flights and lines after every run
 module _ (g : Setting) (w : World) (drawn : List Insert) (h : WorldHolds g w drawn) where
-  own_tokens : HasOwnTokens g w
-  own_tokens j is l up f m = let live = subst (IfUp (JoinerHolds g (known g w drawn) j (w.joiners j).kept)) up (h.joiners j is).live in (each_at (FlightHolds g (known g w drawn) j (w.joiners j).kept.epoch l.number) l.flight live.flights f m).joiner
-
   lines : HasLines g w
   lines s lt l up p t = grind arith
 
@@ -48,7 +44,7 @@ module _ (g : Setting) (d : Disks) (run : List Entry) (facts : AllFactsHold g (w
   v = world_after g w es
 
   all : Stalls g dead w es
-  all = stalls g dead table w es i (own_tokens g w facts.0 facts.2) (lines g w facts.0 facts.2)
+  all = grind (arith, stalls, known, each_at, lines)
 
   causes : OfAllShards (HasCause g) w
   causes = after_run g (HasCause g) (λ b e. none_some b e) (cause_kept g) d run
@@ -125,19 +121,15 @@ module _ (g : Setting) (d : Disks) (run : List Entry) (facts : AllFactsHold g (w
             above : u.round ≤ c.round
             above = below_round u c under
 
-            at_most : (b : Ballot) → UpTo ends.most b → IsUpTo b u
-            at_most b k = subst (λ o. UpTo o b) is k
-
             still : Promised ends.most (promise_at w r at) (promise_at v r at) → promise_at v r at ≡ Some c
-            still (inl same) = same ∙ older
-            still (inr (b, now_is, k, from_old)) = absurd (not_above c u (upto_trans c b u (subst (λ o. IsPromiseUpTo o b) older from_old) (at_most b k)) under)
+            still h = grind (arith, not_above, upto_trans)
 
             other : (q : ℕ) → Promised ends.most (promise_at w q at) (promise_at v q at) → (promise_at v q at ≡ promise_at w q at) ⊎ ((b : Ballot) → promise_at v q at ≡ Some b → b.round < suc m.round)
             other q (inl same) = inl same
-            other q (inr (b, now_is, k, from_old)) = inr (λ b' e. let same : b'.round ≡ b.round = ap (λ (x : Ballot). x.round) (some_same b' b (sym e ∙ now_is)) in let low_ = upto_round b u (at_most b k) in omega (arith, same, low_, above, round_up))
+            other q (inr (b, now_is, k, from_old)) = inr (λ b' e. let same : b'.round ≡ b.round = ap (λ (x : Ballot). x.round) (some_same b' b (sym e ∙ now_is)) in let low_ = upto_round b u (subst (λ o. UpTo o b) is k) in omega (arith, same, low_, above, round_up))
 
         by_trying : IsTrying g dead w at site low v [] [] ends.most → IsRefusedFrom g dead w v at low
-        by_trying h = grind (arith, by_made, ends, held_back)
+        by_trying h = grind (arith, by_made, held_back)
 
   -- ---- what stays so in one shard
 

@@ -135,7 +135,7 @@ module _ (g : Setting) (dead : ℕ → Bool) (old : World) (at : Place) (site lo
       where
         go : IsTrying w air (e ∷ es) h.most → IsTrying w' next es new.0
         go (inr (u, is, le)) = inr (raised new.0 u low (new.1 u (subst (λ o. UpTo o u) (sym is) (inr refl))) le)
-        go (inl (l, up, place, none, le, waits)) = ⊎_elim (λ t. goes step (Server site) Tick t (λ t. moved (inl t)) (λ end o. ended end (λ _. inr (ticked end o)))) (λ free. moved (inr free)) waits
+        go (inl (l, up, place, none, le, waits)) = ⊎_elim (λ t. goes step (Server site) Tick t (λ t. moved (inl t)) (λ end o. ended end (λ _. inr (subst (λ (o : Out ServerLive). (o.live.shards at.shard).held ≡ false) (sym (turned g w (Server site) l Tick up o)) refl)))) (λ free. moved (inr free)) waits
           where
             ended : IsEnd e (Server site) → (Keeps (l.shards at.shard) ((row_of site).live.shards at.shard) → Pending w' next es (Server site) Tick ⊎ (((row_of site).live.shards at.shard).held ≡ false)) → IsTrying w' next es new.0
             ended end waits = by_fate (t.each at.shard).1
@@ -153,10 +153,6 @@ module _ (g : Setting) (dead : ℕ → Bool) (old : World) (at : Place) (site lo
                 by_fate (inl k) = inl ((row_of site).live, now, place_now, k.0 ∙ none, (let more = t.rounds in omega (arith, le, more)), waits k)
                 by_fate (inr (inl (b, was, left, is, round))) = inr (raised new.0 b low (new.3 site lt (row_of site).live now b (place_now, is)) (omega (arith, le, round)))
                 by_fate (inr (inr (r, b, c, input, was, gone, up_to))) = none_some b (sym none ∙ was)
-
-            -- a Tick holds nothing back
-            ticked : IsEnd e (Server site) → opened_at w (Server site) ≡ Some Tick → ((row_of site).live.shards at.shard).held ≡ false
-            ticked end o = subst (λ (o : Out ServerLive). (o.live.shards at.shard).held ≡ false) (sym (turned g w (Server site) l Tick up o)) refl
 
             moved : Pending w' next es (Server site) Tick ⊎ ((l.shards at.shard).held ≡ false) → IsTrying w' next es new.0
             moved waits = lives step (Server site) (λ same. inl (l, same ∙ up, place, none, le, waits)) (λ end _. ended end (λ k. ⊎_elim (λ t. inl t) (λ free. inr (k.1 free)) waits))

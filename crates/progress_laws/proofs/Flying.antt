@@ -56,11 +56,8 @@ module _ (g : Setting) (j : ℕ) (k : JoinerKept) (l : JoinerLive) where
   pub reply_works : (f : Flight) (from : Node) (a : Answer) → Mem f l.flight → JoinerWorks l (joiner_turn g j k l (Deliver from (Reply (insert_of f) a))).live
   reply_works f from a m =
       option_both (find (is_for (insert_of f)) l.flight) (replied g j k l (insert_of f) a) (λ o. JoinerWorks l o.live)
-      (λ y _. ends y a)
+      (λ y _. grind (arith, gone))
       (λ n. absurd (find_none (is_for (insert_of f)) l.flight f n m (and_from _ _ (same_id-refl f.click.id) (same_token-refl f.token))))
     where
       gone : JoinerWorks l (without_flight g j k l (insert_of f))
       gone = (f, m, λ q. true≢false (sym (and_from _ _ (same_id-refl f.click.id) (same_token-refl f.token)) ∙ (landed_before l.flight (insert_of f) f q).1))
-
-      ends : (y : Flight) (a : Answer) → JoinerWorks l (answers g j k l (insert_of f) y a).live
-      ends y a = grind (arith, gone)

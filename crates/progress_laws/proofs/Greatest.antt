@@ -18,11 +18,8 @@ Grows m n = (b : Ballot) → UpTo m b → UpTo n b
 abbrev pub Promised : Option Ballot → Option Ballot → Option Ballot → Type 0
 Promised m old now = (now ≡ old) ⊎ ((b : Ballot) × (now ≡ Some b) × UpTo m b × IsPromiseUpTo old b)
 
-promise_trans : (o : Option Ballot) (b c : Ballot) → IsPromiseUpTo o b → IsUpTo b c → IsPromiseUpTo o c
-promise_trans o b c h k = grind (arith, upto_trans)
-
 pub promised_more : (m : Option Ballot) (old : Option Ballot) (was now : Option Ballot) (b : Ballot) → Promised m old was → now ≡ Some b → UpTo m b → IsPromiseUpTo was b → Promised m old now
-promised_more m old was now b h e up le = inr (b, e, up, ⊎_elim (λ same. subst (λ o. IsPromiseUpTo o b) same le) (λ (x : (c : Ballot) × (was ≡ Some c) × UpTo m c × IsPromiseUpTo old c). promise_trans old x.0 b x.3 (subst (λ o. IsPromiseUpTo o b) x.1 le)) h)
+promised_more m old was now b h e up le = inr (b, e, up, ⊎_elim (λ same. subst (λ o. IsPromiseUpTo o b) same le) (λ (x : (c : Ballot) × (was ≡ Some c) × UpTo m c × IsPromiseUpTo old c). (grind (arith, upto_trans))) h)
 
 -- a promise is the old one, or at most the greatest attempt
 pub promised_is : (m : Option Ballot) (old now : Option Ballot) (c : Ballot) → Promised m old now → now ≡ Some c → (old ≡ Some c) ⊎ UpTo m c
@@ -95,7 +92,7 @@ module _ (g : Setting) (dead : ℕ → Bool) (old : World) (at : Place) where
 
   -- with both servers' attempts
   pub with_both : (w : World) (m : Option Ballot) → SitesUp w → OfAllShards (HasCause g) w → ((u : Ballot) → m ≡ Some u → IsMade w u) → MoreOfBoth w m
-  with_both w m up cause made = (b.0, λ x h. b.1 x (a.1 x h), b.2, each)
+  with_both w m up cause made = (b.0, λ x h. b.1 x (a.1 x h), b.2, (grind arith))
     where
       causes : (s : ℕ) (l : ServerLive) → (w.servers s).live ≡ Some l → HasCause g (l.shards at.shard)
       causes s l e = subst (OfShards (HasCause g)) e (cause s) at.shard
@@ -105,6 +102,3 @@ module _ (g : Setting) (dead : ℕ → Bool) (old : World) (at : Place) where
 
       b : More w a.0 (up 1 (lit< tt)).0
       b = let u = up 1 (lit< tt) in with_one w a.0 1 u.0 (lit< tt) u.1 (causes 1 u.0 u.1) a.2
-
-      each : (s : ℕ) → s < 2 → (l : ServerLive) → (w.servers s).live ≡ Some l → AttemptUpTo b.0 l
-      each = grind arith

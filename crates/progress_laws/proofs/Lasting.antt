@@ -1,7 +1,7 @@
 -- What each turn of a server keeps of its shards holds after every run.
 use Rattle.std.proofs.Common.{◌≡◌, inl, inr, ⊎_elim, ℕ, true, List, [], ◌∷◌, Some, sym, ap, ◌∙◌, subst, arith, Option}
 use Rattle.progress_laws.proofs.Words.{Ballot, none_some, Setting, Input, ServerKept, ServerLive, ShardState, empty_shard, server_start, server_turn, IfUp, World, Entry, Disks, server_row, after, world_after, opening, Out, row_by, is_left}
-use Rattle.progress_laws.proofs.Turning.{ballot_in, Fate, Turns, turns}
+use Rattle.progress_laws.proofs.Turning.{ballot_in, Fate, turns}
 use Rattle.progress_laws.proofs.Waiting.{still_left}
 
 -- P holds of each shard of a server that is up
@@ -33,11 +33,8 @@ HasCause g st = (b : Ballot) → ballot_in st.proposal ≡ Some b → is_left g 
 
 module _ (g : Setting) where
   pub cause_kept : (s : ℕ) (k : ServerKept) (l : ServerLive) → ((n : ℕ) → HasCause g (l.shards n)) → (i : Input) (n : ℕ) → HasCause g ((server_turn g s k l i).live.shards n)
-  cause_kept s k l h i n b e = ⊎_elim (λ x. still_left g (l.shards n) now x.0 (was x.1)) (λ x. none_some b (sym (ap ballot_in x.1) ∙ e)) (all.each n)
+  cause_kept s k l h i n b e = ⊎_elim (λ x. still_left g (l.shards n) now x.0 (was x.1)) (λ x. none_some b (sym (ap ballot_in x.1) ∙ e)) ((turns g s k l i).each n)
     where
-      all : Turns g s k l i (server_turn g s k l i)
-      all = turns g s k l i
-
       now : ShardState
       now = (server_turn g s k l i).live.shards n
 

@@ -40,10 +40,8 @@ module _ (g : Setting) (w : World) where
       both R x y a b p q r = subst (λ z. BothUp R z y) (sym p) (subst (λ z. BothUp R (Some a) z) (sym q) r)
 
       go : (n : Node) (l : LiveOf n) → BothUp (WorksAt n o) (at_node w n).live (at_node (after g w (End n o ps kept)) n).live → WorksAt n o l (row_at g w n).live → IsWork g w (End n o ps kept)
-      go (Dispatcher s) l b works = b
-      go (Server s) l b works = b
       go (Replica r) l b works = works
-      go (Joiner j) l b works = b
+      go _ l b works = b
 
 -- ---- one entry of an interval
 
@@ -139,8 +137,7 @@ comes g dead w es i n is u = let one : length (filter (is_tick_of n) es) ≡ 1 =
 
     some_tick : (es : List Entry) → 0 < length (filter (is_tick_of n) es) → Mem (Begin n Tick) es
     some_tick [] h = absurd (omega arith)
-    some_tick (e ∷ es) h =
-        cond_both (is_tick_of n e) (e ∷ filter (is_tick_of n) es) (filter (is_tick_of n) es) (λ xs. 0 < length xs → Mem (Begin n Tick) (e ∷ es)) (λ t _. inl (is_tick e t)) (λ _ k. inr (some_tick es k)) h
+    some_tick (e ∷ es) h = grind (arith, cond_both, some_tick es)
 
 -- both servers are up
 abbrev pub SitesUp : World → Type 0

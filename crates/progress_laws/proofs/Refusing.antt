@@ -1,6 +1,6 @@
 -- Where more than half of the replicas take part, each attempt ends in an interval in which nothing is done.
 use Rattle.std.proofs.Common.{◌≡◌, ◌⊎◌, inl, inr, ⊎_elim, ℕ, suc, ◌<◌, ◌≤◌, Bool, true, false, ◌||◌, nat_lt, List, ◌∷◌, length, Some, None, refl, sym, ap, ◌∙◌, subst, arith, [], Option, not, is_some, slice_get}
-use Rattle.progress_laws.proofs.Words.{true≢false, or_left, Ballot, marked, Majority, Batch, same_batch, bound_of, Place, Prepared, Taken, on_prepare, on_accept, Grant, Refuse, Phase, Promising, Accepting, Ended, Mem, some_same, Setting, shards, Out, is_empty, Packet, Node, Server, Replica, Only, Input, Tick, Deliver, Sent, ServerKept, ServerLive, Proposal, first_shard, is_free, shard_unfinished, server_unfinished, server_turn, ReplicaKept, cell_at, prepared, taken, replica_turn, IfUp, World, Entry, Disks, server_row, after, world_after, opening, if_up, is_unfinished, first_none, IsIdle, next_of, slice_get_within, up_is}
+use Rattle.progress_laws.proofs.Words.{true≢false, or_left, Ballot, marked, Majority, Batch, same_batch, bound_of, Place, Prepared, on_prepare, on_accept, Grant, Refuse, Phase, Promising, Accepting, Ended, Mem, some_same, Setting, shards, Out, is_empty, Packet, Node, Server, Replica, Only, Input, Tick, Deliver, Sent, ServerKept, ServerLive, Proposal, first_shard, is_free, shard_unfinished, server_unfinished, server_turn, ReplicaKept, cell_at, prepared, taken, replica_turn, IfUp, World, Entry, Disks, server_row, after, world_after, opening, if_up, is_unfinished, first_none, IsIdle, next_of, slice_get_within, up_is}
 use Rattle.progress_laws.proofs.Moments.{opened_at, IsEnd, Step, along_idle, Pending, comes, SitesUp, turned, ended_own, lives, up_after, sites_up, by_turn, goes, row_sent_to}
 use Rattle.progress_laws.proofs.Phases.{IsOpen, IfOpen, AreOpen, question, IsAnswer, HasMark}
 use Rattle.progress_laws.proofs.Asking.{Counts, answer_counts, tick_asks}
@@ -35,9 +35,6 @@ module _ (g : Setting) (dead : ℕ → Bool) (w : World) (air : List Sent) (es :
 turn_open : (g : Setting) (s : ℕ) (k : ServerKept) (l : ServerLive) → LiveOpen g s k l l → (i : Input) → LiveOpen g s k l (server_turn g s k l i).live
 turn_open g s k l h i = (turns g s k l i).opens h
 
-open_kept : (g : Setting) (w : World) (e : Entry) → AreOpen g w → AreOpen g (after g w e)
-open_kept g = lasts g (λ st. IfOpen g.config.replicas st.proposal) tt (turn_open g)
-
 pub every_attempt_open : (g : Setting) (d : Disks) (es : List Entry) → AreOpen g (world_after g (opening d) es)
 every_attempt_open g = after_run g (λ st. IfOpen g.config.replicas st.proposal) tt (turn_open g)
 
@@ -47,12 +44,9 @@ prepare_answers : (at : Place) (b : Ballot) (marks : List Bool) (best : Option (
 prepare_answers at b marks best (Grant prior) = inl (prior, refl)
 prepare_answers at b marks best (Refuse c) = inr (c, refl)
 
-accept_answers : (at : Place) (b : Ballot) (v : Batch) (marks : List Bool) (t : Taken) → IsAnswer at b (Accepting v marks) (taken at b t)
-accept_answers at b v marks t = grind arith
-
 replica_answers : (n : ℕ) (k : ReplicaKept) (from : Node) (at : Place) (b : Ballot) (y : Phase Batch) → IsOpen n y → (q : Packet) × IsAnswer at b y q × Mem (Only from, q) (replica_turn k (Deliver from (question at b y))).packets
 replica_answers n k from at b (Promising marks best) o = (prepared at b (on_prepare (cell_at k at) b).1, prepare_answers at b marks best (on_prepare (cell_at k at) b).1, inl refl)
-replica_answers n k from at b (Accepting v marks) o = (taken at b (on_accept same_batch (cell_at k at) b v).1, accept_answers at b v marks (on_accept same_batch (cell_at k at) b v).1, inl refl)
+replica_answers n k from at b (Accepting v marks) o = (taken at b (on_accept same_batch (cell_at k at) b v).1, (grind arith), inl refl)
 replica_answers n k from at b Ended o = absurd o
 
 module _ {g : Setting} {dead : ℕ → Bool} {w : World} {air next : List Sent} {e : Entry} {es : List Entry} (step : Step g dead w air next e es) where
@@ -99,11 +93,8 @@ module _ {g : Setting} {dead : ℕ → Bool} {w : World} {air next : List Sent} 
 
     -- what becomes of it in the server's turn
     ended : IsEnd e (Server s) → (p : Proposal) → (r_out.live.shards k).proposal ≡ Some p → RowGoesOn p
-    ended end p now = ⊎_elim (λ all. asked_all end p all) kept (follows k p now)
+    ended end p now = ⊎_elim (λ all. asked_all end p all) kept ((by_turn step (Server s) l up end (AllFollow g s (w.servers s).kept l) (λ i _. (turns g s (w.servers s).kept l i).follows)) k p now)
       where
-        follows : AllFollow g s (w.servers s).kept l r_out
-        follows = by_turn step (Server s) l up end (AllFollow g s (w.servers s).kept l) (λ i _. (turns g s (w.servers s).kept l i).follows)
-
         kept : IsKept g s (w.servers s).kept l k (r_out.live.shards k) p → RowGoesOn p
         kept (old, stands, learned, ballot, goes) = unless_ended old stands still (λ end x. took end old stands x p now)
           where
@@ -121,7 +112,7 @@ module _ {g : Setting} {dead : ℕ → Bool} {w : World} {air next : List Sent} 
       record {
         servers = sites_up step h.servers;
         replicas = λ r lt live. let u = h.replicas r lt live in up_after step (Replica r) u.0 u.1;
-        open_ = open_kept g w e h.open_;
+        open_ = (lasts g (λ st. IfOpen g.config.replicas st.proposal) tt (turn_open g)) w e h.open_;
         each = λ s lt l now k below p stands r is live.
             let u = h.servers s lt in
             let at_end : IsEnd e (Server s) → AttemptGoesOn g dead (after g w e) next es s (next_of k (l.shards k)) p r = λ end. (

@@ -1,7 +1,7 @@
 -- A replica's promise at a place rises only to a ballot that it is asked with, and it refuses with its promise.
-use Rattle.std.proofs.Common.{◌≡◌, ◌⊎◌, inl, inr, cond, Some, None, refl, ap, arith, Option}
+use Rattle.std.proofs.Common.{◌≡◌, ◌⊎◌, inl, inr, Some, None, refl, ap, arith, Option}
 use Rattle.std.proofs.lemmas.Bool.{cond_both}
-use Rattle.photon_model.proofs.Words.{Ballot, IsBelow, IsUpTo, is_below, is_same, below_true, below_false, Batch, same_batch, Place, Vote, promise, acceptance, VotesCell as Cell, Prepared, Taken, prepare_under, on_prepare, is_accepted, vote_anew, accept_under, on_accept, Grant, Refuse, Take, Decline, cell_noted, Each, land, Packet, Prepare, Nack, Accept, Node, To, Input, Deliver, ReplicaKept, cell_at, note_at, land_replica, replica_turn}
+use Rattle.photon_model.proofs.Words.{Ballot, IsBelow, IsUpTo, is_below, below_true, below_false, Batch, same_batch, Place, Vote, acceptance, VotesCell as Cell, Prepared, Taken, prepare_under, on_prepare, is_accepted, vote_anew, accept_under, on_accept, Grant, Refuse, Take, Decline, cell_noted, Each, land, Packet, Prepare, Nack, Accept, Node, To, Input, Deliver, ReplicaKept, cell_at, note_at, land_replica, replica_turn}
 
 -- the input asks at the place with the ballot
 abbrev pub AsksAt : Input → Place → Ballot → Type 0
@@ -32,10 +32,7 @@ IsDeclined o b (Decline c) = (o ≡ Some c) × IsBelow b c
 
 prepare_is : (c : Cell Batch) (b : Ballot) (o : Option Ballot) → IsVote o b (prepare_under c b o).0 × IsRefused o b (prepare_under c b o).1
 prepare_is c b None = ((refl, tt), tt)
-prepare_is c b (Some p) =
-    cond_both (is_below b p) (None, Refuse p) (cond (is_same p b) (None, Grant c.accepted) (Some (promise b), Grant c.accepted)) (λ (t : Option (Vote Batch) × Prepared Batch). IsVote (Some p) b t.0 × IsRefused (Some p) b t.1)
-    (λ e. (tt, (refl, below_true b p e)))
-    (λ e. cond_both (is_same p b) (None, Grant c.accepted) (Some (promise b), Grant c.accepted) (λ (t : Option (Vote Batch) × Prepared Batch). IsVote (Some p) b t.0 × IsRefused (Some p) b t.1) (λ _. (tt, tt)) (λ _. ((refl, below_false b p e), tt)))
+prepare_is c b (Some p) = grind arith
 
 anew : (c : Cell Batch) (b : Ballot) (v : Batch) (o : Option Ballot) → IsPromiseUpTo o b → IsVote o b (vote_anew same_batch c b v).0 × IsDeclined o b (vote_anew same_batch c b v).1
 anew c b v o h = cond_both (is_accepted same_batch b v c.accepted) (None, Take) (Some (acceptance b v), Take) (λ (t : Option (Vote Batch) × Taken). IsVote o b t.0 × IsDeclined o b t.1) (λ _. (tt, tt)) (λ _. ((refl, h), tt))

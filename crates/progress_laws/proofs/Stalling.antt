@@ -25,12 +25,9 @@ not_some o e = grind arith
 tried : (g : Setting) (l : DispatcherLive) → ((p : ℕ) → has l.trying p ≡ true → IsLineAt g p) → dispatcher_wants l ≡ false → dispatcher_at_rest l ≡ false → (p : ℕ) × IsTried g l p
 tried g l line calm busy = by_fresh l.fresh l.trying refl refl
   where
-    parts : (first_done l.fresh ≡ false) × ((has_room l && (not (is_empty l.due) || not l.ended)) ≡ false)
-    parts = or_parts (first_done l.fresh) (has_room l && (not (is_empty l.due) || not l.ended)) calm
-
     by_fresh : (fs : List Fresh) (ps : List ℕ) → l.fresh ≡ fs → l.trying ≡ ps → (p : ℕ) × IsTried g l p
     by_fresh (f ∷ fs) ps e q =
-        (f.position, inl (ap (λ x. waits x f.position) e ∙ or_left _ (waits fs f.position) (and_from _ _ (eq-eqb f.position f.position refl) (not_from_false f.done (sym (ap first_done e) ∙ parts.0)))))
+        (f.position, inl (ap (λ x. waits x f.position) e ∙ or_left _ (waits fs f.position) (and_from _ _ (eq-eqb f.position f.position refl) (not_from_false f.done (sym (ap first_done e) ∙ (or_parts (first_done l.fresh) (has_room l && (not (is_empty l.due) || not l.ended)) calm).0)))))
     by_fresh [] (p ∷ ps) e q = let h : has l.trying p ≡ true = ap (λ x. has x p) q ∙ or_left (p == p) (has ps p) (eq-eqb p p refl) in (p, inr (h, line p h))
     by_fresh [] [] e q = grind arith
 
@@ -41,9 +38,6 @@ limits_end g (e ∷ es) w l = limits_end g es (after g w e) l.1
 module _ (g : Setting) (dead : ℕ → Bool) (table : IsTable g.config.table) (w : World) (es : List Entry) (i : IsIdle g dead w es) (own : HasOwnTokens g w) (lines : HasLines g w) where
   abbrev v : World
   v = world_after g w es
-
-  server_left : (s : ℕ) → UpWith (λ l. server_at_rest g l ≡ false) (w.servers s).live → IsLeftAt g w s
-  server_left s u = grind (arith, first_is)
 
   joiner_flies : (j : ℕ) → IsJoiner g j → UpWith (λ l. joiner_at_rest l ≡ false) (w.joiners j).live → HasFlight g w (site_of_joiner g j)
   joiner_flies j is u = let x = up_is (λ (l : JoinerLive). joiner_at_rest l ≡ false) (w.joiners j).live u in let f = some x.0.flight x.2 in (j, x.0, f.0, is, refl, x.1, f.1)
@@ -61,32 +55,20 @@ module _ (g : Setting) (dead : ℕ → Bool) (table : IsTable g.config.table) (w
 
   attempted : (s : ℕ) → s < 2 → (l : ServerLive) → ((world_after g w es).servers s).live ≡ Some l → (k : ℕ) → k < shards g → is_left g (l.shards k) ≡ true → IsAttempted (l.shards k)
   attempted s lt l up k below rest =
-      ⊎_elim (λ spent. absurd (true≢false (sym round ∙ spent)))
+      ⊎_elim (λ spent. absurd (true≢false (sym (subst (IfUp (λ (l : ServerLive). is_below_limit l.round ≡ true)) up (numbers.rounds s lt)) ∙ spent)))
       (λ none. ⊎_elim
-      (λ busy. ⊎_elim (λ a. inl a) (λ a. inr (not_held a)) (and_cases (is_free (l.shards k).proposal) (not (l.shards k).held) busy))
-      (λ idle. ⊎_elim (λ a. absurd (true≢false (sym rest ∙ a))) (λ a. absurd (true≢false (sym slot ∙ a))) (and_cases (is_left g (l.shards k)) (is_below_limit (length (l.shards k).learned)) idle))
+      (λ busy. ⊎_elim (λ a. inl a) (λ a. inr ((not-false (l.shards k).held) a)) (and_cases (is_free (l.shards k).proposal) (not (l.shards k).held) busy))
+      (λ idle. ⊎_elim (λ a. absurd (true≢false (sym rest ∙ a))) (λ a. absurd (true≢false (sym (subst (IfUp (λ (l : ServerLive). (k : ℕ) → k < shards g → is_below_limit (length (l.shards k).learned) ≡ true)) up (numbers.slots s lt) k below) ∙ a))) (and_cases (is_left g (l.shards k)) (is_below_limit (length (l.shards k).learned)) idle))
       (and_cases (is_free (l.shards k).proposal && not (l.shards k).held) _ (first_none (λ k. may_propose g (l.shards k)) 0 (shards g) (not_some _ none) k (omega arith) (omega arith))))
-      (and_cases (is_below_limit l.round) (is_some (first_shard (λ k. may_propose g (l.shards k)) 0 (shards g))) calm)
+      (and_cases (is_below_limit l.round) (is_some (first_shard (λ k. may_propose g (l.shards k)) 0 (shards g))) (subst (UpWith (λ (l : ServerLive). server_wants g l ≡ false)) up (i.interval.ends.servers s lt).1))
     where
       numbers : HasNumbers g (world_after g w es)
       numbers = limits_end g es w i.limits
 
-      round : is_below_limit l.round ≡ true
-      round = subst (IfUp (λ (l : ServerLive). is_below_limit l.round ≡ true)) up (numbers.rounds s lt)
-
-      slot : is_below_limit (length (l.shards k).learned) ≡ true
-      slot = subst (IfUp (λ (l : ServerLive). (k : ℕ) → k < shards g → is_below_limit (length (l.shards k).learned) ≡ true)) up (numbers.slots s lt) k below
-
-      calm : server_wants g l ≡ false
-      calm = subst (UpWith (λ (l : ServerLive). server_wants g l ≡ false)) up (i.interval.ends.servers s lt).1
-
-      not_held : not (l.shards k).held ≡ false → (l.shards k).held ≡ true
-      not_held = not-false (l.shards k).held
-
   pub stalls : Stalls g dead w es
   stalls =
       record {
-        servers = λ s u. along_idle g dead (λ w air es. IsLeftAt g w s) (λ w air next e es step. left_stays step s) es w i (server_left s u);
+        servers = λ s u. along_idle g dead (λ w air es. IsLeftAt g w s) (λ w air next e es step. left_stays step s) es w i (grind (arith, first_is));
         joiners = λ j is u. let s = site_of_joiner g j in asks g dead table w es i own s (along_idle g dead (λ w air es. HasFlight g w s) (λ w air next e es step. flight_stays step s) es w i (joiner_flies j is u));
         dispatchers = λ s lt u. let t = dispatcher_tried s lt u in asks g dead table w es i own s (tries g dead w es i s t.0 lt t.1);
         attempted = attempted;

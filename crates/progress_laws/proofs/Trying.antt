@@ -122,10 +122,7 @@ module _ {g : Setting} {dead : ℕ → Bool} {w : World} {air next : List Sent} 
       ⊎_elim
       (λ f. inl (j, (joiner_row g j (w.joiners j)).live, f.0, is, site, ended_own g w e (Joiner j) end, f.1))
       (λ n. inr (Joiner j, n.0, subst (λ t. Pending (after g w e) next es (Dispatcher t) (Deliver (Joiner j) (Joined p (NoQuery n.0)))) site (row_sent_to step (Joiner j) end (Dispatcher (site_of_joiner g j)) (Joined p (NoQuery n.0)) n.1 refl)))
-      there
-    where
-      there : Taken g j p (joiner_row g j (w.joiners j))
-      there = subst (Taken g j p) (sym (turned g w (Joiner j) l (Deliver from (Join p c)) up o)) (join_taken g j (w.joiners j).kept l p c from (subst (IfUp (λ (x : JoinerLive). x.number < 2 ^ 64 - 1)) up (step.limits.tokens j is)))
+      (subst (Taken g j p) (sym (turned g w (Joiner j) l (Deliver from (Join p c)) up o)) (join_taken g j (w.joiners j).kept l p c from (subst (IfUp (λ (x : JoinerLive). x.number < 2 ^ 64 - 1)) up (step.limits.tokens j is))))
 
   pub trial_goes_on : TrialGoesOn g w air (e ∷ es) s p → TrialGoesOn g (after g w e) next es s p
   trial_goes_on h = record { up = λ j is. let u = h.up j is in up_after step (Joiner j) u.0 u.1; tried = tried_stays h.tried; goes = moves h.goes }
@@ -156,10 +153,7 @@ tried_unfinished g l p (inl t) = or_left (some_waits l.fresh) _ (some l.fresh t)
   where
     some : (fs : List Fresh) → waits fs p ≡ true → some_waits fs ≡ true
     some [] e = absurd (true≢false (sym e))
-    some (f ∷ fs) e =
-        ⊎_elim (λ a. or_left (not f.done) (some_waits fs) (and_parts (f.position == p) (not f.done) a).1)
-        (λ a. or_right (not f.done) (some_waits fs) (some fs a))
-        (or_cases ((f.position == p) && not f.done) (waits fs p) e)
+    some (f ∷ fs) e = grind (arith, or_left, some_waits, and_parts, or_right, some fs)
 tried_unfinished g l p (inr t) = grind arith
 
 pub tries : (g : Setting) (dead : ℕ → Bool) (w : World) (es : List Entry) → IsIdle g dead w es → (s p : ℕ) → s < 2 → HasTried g w s p → HasFlight g (world_after g w es) s

@@ -13,4 +13,4 @@ pub use Rattle.std.proofs.lemmas.Bool.{and_cases, and_from, and_parts, cases_Boo
 pub use Rattle.std.proofs.lemmas.List.{length-append, length-replicate, length-set}
 pub use Rattle.std.proofs.lemmas.List.Sums.{length-filter}
 pub use Rattle.std.proofs.lemmas.Option.{slice_get_within}
-pub use Rattle.time_shards.specs.Shards.{IsTable}
+pub use Rattle.progress_laws.specs.Terms.{IsTable}

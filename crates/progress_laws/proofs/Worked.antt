@@ -1,6 +1,7 @@
 -- The worked intervals, computed.
-use Rattle.std.proofs.Common.{◌≡◌, inl, ℕ, zero, suc, ◌<◌, Bool, true, false, nat_lt, ◌==◌, List, [], ◌∷◌, ◌++◌, length, Some, None, refl, sym, ap, arith, lit<, not, is_some, filter, Option, length-append}
-use Rattle.progress_laws.proofs.Words.{true≢false, ltb-true, eqb-true, not-true, of_two, at_node, Note, IsInterval, Ballot, is_same, same_true, same_batch, same_batch-true, Place, is_place, place_true, Packet, Prepare, Promise, Nack, Accept, Accepted, Chosen, Node, Dispatcher, Server, Replica, Joiner, To, Only, AnyJoiner, Input, Start, Deliver, IsNode, Addressed, Sent, IsJoiner, shards, dispatcher_wants, ServerLive, is_below_limit, server_wants, IfUp, World, Entry, Begin, End, Stop, Fits, WasSent, MayBegin, May, IsRun, sends, after, world_after, same_node, UpWith, IsWork, put_in, ticks_of, ticks_due, is_unfinished, to_live, Carries, IsQuiet, HasNumbers, IsWithinLimits, NoWork, IsIdle, three, all_live, to_one, ends, plays, duel, restarts, beginning, down_again, stale, second, third, fourth, after_first, after_second, after_third, CarriesOnce, ThreeAreIdle, same_node-true}
+use Rattle.std.specs.Option.{option_and_then, option_map, option_or}
+use Rattle.std.proofs.Common.{◌≡◌, inl, ℕ, suc, ◌<◌, Bool, true, false, nat_lt, ◌==◌, List, [], ◌∷◌, ◌++◌, length, Some, None, refl, sym, ap, arith, lit<, not, is_some, filter, Option, length-append}
+use Rattle.progress_laws.proofs.Words.{true≢false, ltb-true, eqb-true, not-true, of_two, at_node, Note, IsInterval, Ballot, is_same, same_true, same_batch, same_batch-true, Place, is_place, place_true, Packet, Prepare, Promise, Nack, Accept, Accepted, Chosen, Node, Dispatcher, Server, Replica, Joiner, To, Only, AnyJoiner, Input, Start, Deliver, IsNode, Addressed, Sent, shards, dispatcher_wants, ServerLive, is_below_limit, server_wants, IfUp, World, Entry, Begin, End, Stop, Fits, WasSent, MayBegin, May, IsRun, sends, after, world_after, same_node, UpWith, IsWork, put_in, ticks_of, ticks_due, is_unfinished, to_live, Carries, IsQuiet, HasNumbers, IsWithinLimits, NoWork, IsIdle, three, all_live, to_one, ends, plays, duel, restarts, beginning, down_again, stale, second, third, fourth, after_first, after_second, after_third, CarriesOnce, ThreeAreIdle, same_node-true}
 use Rattle.photon_model.proofs.Words.{Cell}
 use Rattle.progress_laws.specs.Rows.{first}
 use Rattle.progress_laws.proofs.Moments.{put_back, row_at, begun_own}
@@ -13,9 +14,9 @@ longer x rest ys (front, back, a, b) = let p = ap length a in let q = ap length 
 pub carries_once : CarriesOnce
 carries_once =
     record {
-      once = ([], ([], [], refl, refl), refl);
-      never = λ e. (let q : 1 ≡ 0 = ap length e in absurd (omega (arith, q)));
-      before = λ (rest, p, c). (let q : 0 ≡ suc (length rest) = longer _ rest _ p in absurd (omega (arith, q)));
+      once = grind arith;
+      never = grind arith;
+      before = grind (arith, longer);
       twice = λ (rest, p, (rest', q, c)). (let a : 1 ≡ suc (length rest) = longer _ rest _ p in let b = longer _ rest' rest q in absurd (omega (arith, a, b)));
     }
 
@@ -28,25 +29,11 @@ abbrev if_true : {A : Type 0} (b : Bool) → (b ≡ true → A) → Option A
 if_true true f = Some (f refl)
 if_true false f = None
 
-abbrev with_one : {A B : Type 0} → Option A → (A → B) → Option B
-with_one None f = None
-with_one (Some a) f = Some (f a)
-
 abbrev with_two : {A B C : Type 0} → Option A → Option B → (A → B → C) → Option C
-with_two None b f = None
-with_two (Some a) b f = with_one b (f a)
+with_two a b f = option_and_then (λ x. option_map (f x) b) a
 
 abbrev with_three : {A B C D : Type 0} → Option A → Option B → Option C → (A → B → C → D) → Option D
-with_three None b c f = None
-with_three (Some a) b c f = with_two b c (f a)
-
-abbrev with_four : {A B C D E : Type 0} → Option A → Option B → Option C → Option D → (A → B → C → D → E) → Option E
-with_four None b c d f = None
-with_four (Some a) b c d f = with_three b c d (f a)
-
-abbrev or_else : {A : Type 0} → Option A → Option A → Option A
-or_else None b = b
-or_else (Some a) b = Some a
+with_three a b c f = option_and_then (λ x. with_two b c (f x)) a
 
 -- ---- packets compared
 
@@ -69,8 +56,8 @@ try_packet _ _ = None
 abbrev take_out : (x : Sent) (ys : List Sent) → Option ((rest : List Sent) × put_in x rest ys)
 take_out x [] = None
 take_out x (y ∷ ys) =
-    or_else (with_three (if_true (same_node y.from x.from) (same_node-true _ _)) (if_true (same_node y.to x.to) (same_node-true _ _)) (try_packet y.packet x.packet) (λ a b c. (ys, ([], ys, refl, λ i. record { from = a i; to = b i; packet = c i } ∷ ys))))
-    (with_one (take_out x ys) (λ (rest, (front, back, a, b)). (y ∷ rest, (y ∷ front, back, ap (λ zs. y ∷ zs) a, ap (λ zs. y ∷ zs) b))))
+    option_or (with_three (if_true (same_node y.from x.from) (same_node-true _ _)) (if_true (same_node y.to x.to) (same_node-true _ _)) (try_packet y.packet x.packet) (λ a b c. (ys, ([], ys, refl, λ i. record { from = a i; to = b i; packet = c i } ∷ ys))))
+    (option_map (λ (rest, (front, back, a, b)). (y ∷ rest, (y ∷ front, back, ap (λ zs. y ∷ zs) a, ap (λ zs. y ∷ zs) b))) (take_out x ys))
 
 -- ---- what is played is a run
 
@@ -81,7 +68,7 @@ try_fit (Some l) Start = None
 try_fit (Some l) _ = Some tt
 
 abbrev try_sent : (sent : List Sent) (n : Node) (i : Input) → Option (WasSent sent n i)
-try_sent sent n (Deliver from p) = with_one (take_out (record { from = from; to = n; packet = p }) sent) (λ (rest, p). put_back all_live _ _ rest sent p (inl refl))
+try_sent sent n (Deliver from p) = option_map (λ (rest, p). put_back all_live _ _ rest sent p (inl refl)) (take_out (record { from = from; to = n; packet = p }) sent)
 try_sent sent n _ = Some tt
 
 abbrev try_closed : (o : Option Input) → Option (o ≡ None)
@@ -90,7 +77,7 @@ try_closed (Some i) = None
 
 abbrev try_addressed : (ps : List (To × Packet)) → Option (Addressed three ps (to_one ps))
 try_addressed [] = Some tt
-try_addressed ((Only n, p) ∷ ps) = with_one (try_addressed ps) (λ h. ((refl, refl), h))
+try_addressed ((Only n, p) ∷ ps) = option_map (λ h. ((refl, refl), h)) (try_addressed ps)
 try_addressed ((AnyJoiner s, p) ∷ ps) = None
 
 abbrev try_member : (n : Node) → Option (IsNode three n)
@@ -104,7 +91,7 @@ begun w n i = after three w (Begin n i)
 
 -- the node's open turn ends as its row says
 may_end : (w : World) (n : Node) (i : Input) → IsNode three n → (at_node w n).opened ≡ Some i → Addressed three (row_at three w n).packets (to_one (row_at three w n).packets) → May three w (ends w n)
-may_end w n i is o a = (is, ((i, o), refl, a), omega arith)
+may_end w n i is o a = grind arith
 
 abbrev try_turn : (w : World) (n : Node) (i : Input) → Option (May three w (Begin n i) × May three (begun w n i) (ends (begun w n i) n))
 try_turn w n i =
@@ -117,14 +104,10 @@ try_played ((n, i) ∷ ts) w = with_two (try_turn w n i) (try_played ts (after t
 
 -- ---- what is carried
 
-abbrev try_rest : (n from : Node) (p : Packet) (es : List Entry) (air : List Sent) → ((rest : List Sent) → Option (Carries all_live rest es)) → Option ((rest : List Sent) × put_in (record { from = from; to = n; packet = p }) rest air) → Option (Carries all_live air (Begin n (Deliver from p) ∷ es))
-try_rest n from p es air more None = None
-try_rest n from p es air more (Some (rest, put)) = with_one (more rest) (λ c. (rest, put, c))
-
 abbrev try_carried : (es : List Entry) (air : List Sent) → Option (Carries all_live air es)
 try_carried [] [] = Some refl
 try_carried [] (x ∷ air) = None
-try_carried (Begin n (Deliver from p) ∷ es) air = try_rest n from p es air (try_carried es) (take_out (record { from = from; to = n; packet = p }) air)
+try_carried (Begin n (Deliver from p) ∷ es) air = option_and_then (λ (rest, put). option_map (λ c. (rest, put, c)) (try_carried es rest)) (take_out (record { from = from; to = n; packet = p }) air)
 try_carried (Begin n _ ∷ es) air = try_carried es air
 try_carried (End n o ps kept ∷ es) air = try_carried es (filter (to_live all_live) (sends n ps) ++ air)
 try_carried (Stop n o ∷ es) air = None
@@ -132,20 +115,13 @@ try_carried (Stop n o ∷ es) air = None
 -- ---- the setting's nodes
 
 each_of_three : (P : ℕ → Type 0) → P 0 → P 1 → P 2 → (r : ℕ) → r < 3 → P r
-each_of_three P a b c zero lt = a
-each_of_three P a b c (suc zero) lt = b
-each_of_three P a b c (suc (suc zero)) lt = c
-each_of_three P a b c (suc (suc (suc r))) lt = absurd (omega (arith, lt))
-
-no_joiner : (j : ℕ) → IsJoiner three j → ⊥
-no_joiner j is = let a = is.0 in let b = is.1 in omega (arith, a, b)
+each_of_three P a b c r lt = grind arith
 
 each_node : (P : Node → Type 0) → ((s : ℕ) → s < 2 → P (Dispatcher s)) → ((s : ℕ) → s < 2 → P (Server s)) → ((r : ℕ) → r < 3 → P (Replica r)) → (n : Node) → IsNode three n → P n
 each_node P d s r n is = grind arith
 
 at_zero : (P : ℕ → Type 0) → P 0 → (k : ℕ) → k < 1 → P k
-at_zero P p zero lt = p
-at_zero P p (suc k) lt = absurd (omega (arith, lt))
+at_zero P p k lt = grind arith
 
 abbrev try_two : (P : ℕ → Type 0) → ((s : ℕ) → Option (P s)) → Option ((s : ℕ) → s < 2 → P s)
 try_two P f = with_two (f 0) (f 1) (of_two P)
@@ -166,7 +142,7 @@ numbers : (w : World) → ((s : ℕ) → s < 2 → IfUp (λ (l : ServerLive). (i
 numbers w h = grind arith
 
 abbrev try_numbers : (w : World) → Option (HasNumbers three w)
-try_numbers w = with_one (try_two (λ s. IfUp (λ (l : ServerLive). (is_below_limit l.round ≡ true) × HasSlots l) (w.servers s).live) (λ s. try_low (w.servers s).live)) (numbers w)
+try_numbers w = option_map (numbers w) (try_two _ (λ s. try_low (w.servers s).live))
 
 -- a server's turn that takes nothing that teaches it a value is no work
 no_work : (w : World) (s : ℕ) (o : Option Note) (ps : List (Node × Packet)) (kept : ℕ) (l : ServerLive) (i : Input) → (w.servers s).live ≡ Some l → (w.servers s).opened ≡ Some i → teaches i ≡ false → IsWork three w (End (Server s) o ps kept) → ⊥
@@ -183,7 +159,7 @@ try_no_work w (End (Joiner s) o ps kept) = None
 try_no_work w _ = Some (λ works. works)
 
 abbrev try_calm : (es : List Entry) (w : World) → Option (IsWithinLimits three w es × NoWork three w es)
-try_calm [] w = with_one (try_numbers w) (λ n. (n, tt))
+try_calm [] w = option_map (λ n. (n, tt)) (try_numbers w)
 try_calm (e ∷ es) w = with_three (try_numbers w) (try_no_work w e) (try_calm es (after three w e)) (λ n i c. ((n, c.0), (i, c.1)))
 
 -- ---- the intervals
@@ -200,25 +176,16 @@ quiet w ds ss rs = grind arith
 
 abbrev try_quiet : (w : World) → Option (IsQuiet three all_live w)
 try_quiet w =
-    with_three
-    (try_two (λ s. ((w.dispatchers s).opened ≡ None) × UpWith (λ l. dispatcher_wants l ≡ false) (w.dispatchers s).live) (λ s. try_still dispatcher_wants (w.dispatchers s)))
-    (try_two (λ s. ((w.servers s).opened ≡ None) × UpWith (λ l. server_wants three l ≡ false) (w.servers s).live) (λ s. try_still (server_wants three) (w.servers s)))
-    (try_three (λ r. ((w.replicas r).opened ≡ None) × UpWith (λ l. false ≡ false) (w.replicas r).live) (λ r. try_still (λ _. false) (w.replicas r)))
-    (quiet w)
+    with_three (try_two _ (λ s. try_still dispatcher_wants (w.dispatchers s))) (try_two _ (λ s. try_still (server_wants three) (w.servers s))) (try_three _ (λ r. try_still (λ _. false) (w.replicas r))) (quiet w)
 
-abbrev HasTicks : World → List Entry → Node → Type 0
-HasTicks w es n = ticks_of n es ≡ ticks_due (is_unfinished three w n)
+abbrev try_ticks_of : (w : World) (es : List Entry) (n : Node) → Option (ticks_of n es ≡ ticks_due (is_unfinished three w n))
+try_ticks_of w es n = if_true (ticks_of n es == ticks_due (is_unfinished three w n)) (eqb-true _ _)
 
-abbrev try_ticks : (w : World) (es : List Entry) → Option ((n : Node) → IsNode three n → HasTicks w es n)
-try_ticks w es =
-    with_three
-    (try_two (λ s. HasTicks w es (Dispatcher s)) (λ s. if_true (ticks_of (Dispatcher s) es == ticks_due (is_unfinished three w (Dispatcher s))) (eqb-true _ _)))
-    (try_two (λ s. HasTicks w es (Server s)) (λ s. if_true (ticks_of (Server s) es == ticks_due (is_unfinished three w (Server s))) (eqb-true _ _)))
-    (try_three (λ r. HasTicks w es (Replica r)) (λ r. if_true (ticks_of (Replica r) es == 0) (eqb-true _ _)))
-    (each_node (HasTicks w es))
+abbrev try_ticks : (w : World) (es : List Entry) → Option ((n : Node) → IsNode three n → ticks_of n es ≡ ticks_due (is_unfinished three w n))
+try_ticks w es = with_three (try_two _ (λ s. try_ticks_of w es (Dispatcher s))) (try_two _ (λ s. try_ticks_of w es (Server s))) (try_three _ (λ r. try_ticks_of w es (Replica r))) (each_node _)
 
 abbrev try_interval : (w : World) (es : List Entry) → Option (IsInterval three all_live w es)
-try_interval w es = with_four (try_quiet w) (try_quiet (world_after three w es)) (try_carried es []) (try_ticks w es) (λ q r c t. record { starts = q; ends = r; carries = c; ticks = t })
+try_interval w es = option_and_then (λ t. with_three (try_quiet w) (try_quiet (world_after three w es)) (try_carried es []) (λ q r c. record { starts = q; ends = r; carries = c; ticks = t })) (try_ticks w es)
 
 abbrev try_idle : (w : World) (ts : List (Node × Input)) → Option (IsIdle three all_live w (plays w ts))
 try_idle w ts = with_three (try_played ts w) (try_interval w (plays w ts)) (try_calm (plays w ts) w) (λ r i c. record { run = r; interval = i; limits = c.0; no_work = c.1 })
@@ -234,5 +201,5 @@ three_are_idle =
       goes_on = got (try_played fourth after_third) refl;
       last = got (try_interval after_third (plays after_third fourth)) refl;
       works = λ h. h.1.1.1.1.1.1.1.1.1.1.1.1.1.1.1.1.1.1.1.1.1.1.1.0 (0, lit< tt);
-      rests = record { dispatchers = of_two _ refl refl; joiners = λ j is. absurd (no_joiner j is); servers = of_two _ refl refl };
+      rests = record { dispatchers = of_two _ refl refl; joiners = λ j is. absurd (grind arith); servers = of_two _ refl refl };
     }

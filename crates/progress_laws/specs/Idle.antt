@@ -1,11 +1,8 @@
 -- Intervals in a row, of a run and within its limits, in which no turn is work.
 use Rattle.std.specs.Prelude.{◌≡◌, ℕ, ◌-◌, ◌^◌, ◌<◌, Bool, true, List, ◌∷◌, length, ⊤, []}
-use Rattle.turn_defs.specs.Server.{ServerLive, is_below_limit}
+use Rattle.progress_laws.specs.Terms.{Entry, IsInterval, IsJoiner, IsRun, IsWork, ServerLive, Setting, World, after, is_below_limit, shards, world_after}
 use Rattle.turn_defs.specs.Joiner.{JoinerLive}
-use Rattle.turn_defs.specs.Setting.{Setting, IsJoiner, shards}
 use Rattle.photon_model.specs.Facts.{IfUp}
-use Rattle.photon_model.specs.Runs.{World, Entry, after, world_after, IsRun}
-use Rattle.photon_model.specs.Rest.{IsInterval, IsWork}
 
 -- no entry is work
 abbrev pub NoWork : Setting → World → List Entry → Type 0

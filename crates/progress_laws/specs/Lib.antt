@@ -1,3 +1,4 @@
 pub mod Idle
 pub mod Moves
 pub mod Rows
+pub mod Terms

@@ -1,16 +1,9 @@
 -- Work moves on: what stands still for so many intervals is done.
 use Rattle.std.specs.Prelude.{◌≡◌, ◌⊎◌, ℕ, suc, ◌+◌, ◌<◌, ◌≤◌, Bool, true, false, not, ◌||◌, nat_lt, List, length, if◌then◌else◌, Option, Some, None}
-use Rattle.ballot_core.specs.declared.Ballot.{Ballot}
+use Rattle.progress_laws.specs.Terms.{Ballot, Entry, IsAtRest, IsTable, Place, ServerLive, Setting, ShardState, World, is_empty, shards, world_after}
 use Rattle.ballot_core.specs.Majority.{Majority}
-use Rattle.time_shards.specs.Shards.{IsTable}
 use Rattle.registry_state.specs.LookBack.{bound_of}
-use Rattle.paxos_defs.specs.declared.Place.{Place}
-use Rattle.turn_defs.specs.Setting.{Setting, shards}
-use Rattle.turn_defs.specs.Turns.{is_empty}
-use Rattle.turn_defs.specs.Server.{ServerLive, ShardState}
 use Rattle.turn_defs.specs.Replica.{cell_at}
-use Rattle.photon_model.specs.Runs.{World, Entry, world_after}
-use Rattle.photon_model.specs.Rest.{IsAtRest}
 use Rattle.progress_laws.specs.Idle.{IsIdle, AreIdle}
 
 -- how many of the first n replicas take part

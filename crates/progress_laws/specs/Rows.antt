@@ -1,11 +1,8 @@
 -- Worked intervals: a packet is carried once, and three idle intervals follow one another with three replicas.
 use Rattle.std.specs.Prelude.{ℕ, ◌==◌, Bool, false, List, [], ◌∷◌, length, None}
-use Rattle.ballot_core.specs.declared.Ballot.{Ballot}
+use Rattle.progress_laws.specs.Terms.{Ballot, Begin, Carries, End, Entry, IsAtRest, IsInterval, IsRun, Out, Place, Setting, Stop, World, after, at_node, opening, row_of, world_after}
 use Rattle.registry_state.specs.declared.Batch.{Batch}
-use Rattle.paxos_defs.specs.declared.Place.{Place}
 use Rattle.turn_defs.specs.Rows.{worked}
-use Rattle.turn_defs.specs.Setting.{Setting}
-use Rattle.turn_defs.specs.Turns.{Out}
 use Rattle.turn_defs.specs.declared.packet.Packet.{Packet}
 use Rattle.turn_defs.specs.declared.packet.Packet.TheVariants.{Prepare, Promise, Nack, Accept, Accepted, Chosen}
 use Rattle.turn_defs.specs.declared.node.Node.{Node}
@@ -15,8 +12,6 @@ use Rattle.turn_defs.specs.declared.node.To.TheVariants.{Only, AnyJoiner}
 use Rattle.turn_defs.specs.declared.node.Input.{Input}
 use Rattle.turn_defs.specs.declared.node.Input.TheVariants.{Start, Own, Tick, Deliver}
 use Rattle.photon_model.specs.Stores.{empty_disks}
-use Rattle.photon_model.specs.Runs.{World, Entry, Begin, End, Stop, at_node, row_of, after, world_after, IsRun, opening}
-use Rattle.photon_model.specs.Rest.{IsAtRest, Carries, IsInterval}
 use Rattle.progress_laws.specs.Idle.{NoWork, AreIdle}
 
 abbrev pub place : Place

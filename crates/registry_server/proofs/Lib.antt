@@ -12,5 +12,3 @@ pub mod Hearing
 pub mod Standing
 pub mod Spelling
 pub mod Registering
-pub mod Landing
-pub mod Ending

@@ -1,10 +1,14 @@
 -- Lists of shards that stand for the states of their numbers, changed in one place.
 use Rattle.std.proofs.Common.{◌≡◌, ℕ, ◌+◌, ◌<◌, ◌≤◌, false, List, ◌++◌, length, take, drop, get_or, set, refl, sym, ◌∙◌, subst, ⊎_elim, arith}
-use Rattle.registry_server.proofs.Words.{cases_eq, get_or-set_same, get_or-set_other, length-set, append-nil, take_all, drop_all, ShardState, IsShard, EachStands, Shard}
+use Rattle.registry_server.proofs.Words.{cases_eq, get_or-set_same, get_or-set_other, length-set, append-nil, take_all, drop_all, ShardState, IsShard, EachStands, Shard, empty_shard}
 
 -- one shard in the place of another, which stands for whatever that one stands for
 pub set_each : (xs : List Shard) (f : ℕ → ShardState) (i : ℕ) (old new : Shard) → i < length xs → old ≡ get_or xs i old → ((st : ShardState) → IsShard old st → IsShard new st) → EachStands xs f → EachStands (set xs i new) f
 set_each xs f i old new w is same h = grind (arith, get_or-set_same, get_or-set_other, length-set)
+
+-- one more is empty
+pub empty_more : (xs : List Shard) (i : ℕ) (x : Shard) → i < length xs → IsShard x empty_shard → ((s : ℕ) (d : Shard) → s < i → IsShard (get_or xs s d) empty_shard) → (s : ℕ) (d : Shard) → s < i + 1 → IsShard (get_or (set xs i x) s d) empty_shard
+empty_more xs i x w is below s d lt = grind (arith, get_or-set_same, get_or-set_other)
 
 -- Up to a place the shards were released, and from it on they are as at the start.
 pub record Released (start items : List Shard) (i : ℕ) : Type 0 where

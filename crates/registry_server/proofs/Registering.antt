@@ -1,128 +1,91 @@
 -- What a registrar decides and keeps.
-use Rattle.std.proofs.Common.{◌≡◌, inl, inr, ⊎_elim, ℕ, Bool, true, false, Option, Some, None, refl, sym, ap, ◌∙◌, subst, All, option_map, Result, Ok, Err, IfOk}
-use Rattle.registry_server.proofs.Words.{sent_ok, Packet, Node, Input, Start, Own, Tick, Deliver, IsPacket, Setting, Note, Out, land, IsInput, row_of, ServerKept, ServerLive, land_server, server_start, server_turn, Stands, Serves, Begins, IsTurn, Carries, CarriesStart, changed, note_of, site_of, IsSpelledPlan, IsSpelledLive, SiteKept, KnowsAs, Knows, Fits, MayRaise, IsNextNote, IsRow, Makes, IsSpelledCore, IsSpelledTurn, landed, server_rows, ServerCore, ServerInput, ServerNote, Turn}
-use Rattle.registry_server.proofs.Spelling.{Sends, start_ok, turn_ok}
+use Rattle.std.proofs.Common.{◌≡◌, ℕ, true, Option, Some, sym, ap, ◌∙◌, subst, arith, All, option_map, IfSome}
+use Rattle.registry_server.proofs.Words.{sent_ok, Packet, Node, Input, Start, Own, Tick, Deliver, IsPacket, Setting, Note, Out, land, IsInput, row_of, ServerKept, ServerLive, land_server, Stands, IsTurn, IsTaken, changed, core_row, known, note_of, site_of, IsSpelledPlan, IsSpelledLive, Numbered, numbered, Knows, Fits, MayRaise, GoesOn, ServesSite, Makes, IsSpelledCore, IsSpelledTurn, landed, server_rows, is_next_epoch, ServerCore, HeldEpoch, Station, Turn}
+use Rattle.registry_server.proofs.Spelling.{Sends, IsSpelledOut, turn_ok}
 
--- the turn that the core decides on an input, where the disk has this epoch
-pub record Decides (old new : ServerCore) (epoch : ℕ) (i : Input) (turn : Turn) : Type 0 where
-  pub starts : i ≡ Start → (g : Setting) (k : ServerKept) (l : ServerLive) → epoch ≡ k.epoch → IsTurn g (site_of old) l turn (server_start k)
-  pub begins : i ≡ Start → (k : ServerKept) → epoch ≡ k.epoch → Begins turn k
-  pub goes : (i ≡ Start → ⊥) → (g : Setting) (k : ServerKept) (l : ServerLive) → Stands old g k l → IsTurn g (site_of old) l turn (server_turn g (site_of old) k l i)
-  pub same : (g : Setting) (k : ServerKept) (l : ServerLive) → Stands old g k l → Stands new g k l
-  pub serves : (g : Setting) → Serves old g → Serves new g
-  pub site : site_of new ≡ site_of old
+-- the row of an input that fits what is known
+row_is : (g : Setting) (k : Numbered ServerKept) (live : Option ServerLive) (i : Input) → Fits live i → core_row g k.number k.disk (known live) i ≡ row_of (numbered server_rows) g k live i
+row_is g k h e fits = grind arith
 
-pub all_three : {T E : Type 0} (r : Result T E) (A B C Q : T → Type 0) → IfOk r A → IfOk r B → IfOk r C → ((x : T) → A x → B x → C x → Q x) → IfOk r Q
-all_three (Ok x) A B C Q a b c go = go x a b c
-all_three (Err e) A B C Q a b c go = tt
+-- what a row sends and makes has spellings, and the disk takes its note
+record IsFitRow (k : ServerKept) (out : Out ServerLive) : Type 0 where
+  packets : Sends out.packets
+  spelled : IsSpelledLive (land land_server out.note k) out.live
+  taken : IfSome out.note (λ n. is_next_epoch k.epoch n ≡ true)
 
-pub up_by : (u : Bool) (core : ServerCore) (g : Setting) (k : ServerKept) (l : ServerLive) → KnowsAs u core g k (Some l) → Stands core g k l
-up_by true core g k l knows = knows
-up_by false core g k l knows = absurd knows
+quiet_fits : (k : ServerKept) (out : Out ServerLive) → IsSpelledOut k out → IsFitRow k out
+quiet_fits k out ok = grind (arith, land)
 
-knows_same : (u : Bool) (old new : ServerCore) (g : Setting) (k : ServerKept) (live : Option ServerLive) → ((l : ServerLive) → Stands old g k l → Stands new g k l) → KnowsAs u old g k live → KnowsAs u new g k live
-knows_same true old new g k (Some l) same knows = same l knows
-knows_same true old new g k None same knows = absurd knows
-knows_same false old new g k (Some l) same knows = absurd knows
-knows_same false old new g k None same knows = knows
+row_fits : (g : Setting) (site : ℕ) → IsSpelledPlan g site → (k : ServerKept) (l : ServerLive) → IsSpelledLive k l → (i : Input) → IsInput i → MayRaise k.epoch i → IsFitRow k (core_row g site k l i)
+row_fits g site plan k l live Start is low = grind arith
+row_fits g site plan k l live Own is low = quiet_fits k _ (turn_ok g site plan k l live Own is)
+row_fits g site plan k l live Tick is low = quiet_fits k _ (turn_ok g site plan k l live Tick is)
+row_fits g site plan k l live (Deliver from p) is low = quiet_fits k _ (turn_ok g site plan k l live (Deliver from p) is)
 
-pub stays : (u : Bool) (old new : ServerCore) (g : Setting) (k : SiteKept) (live : Option ServerLive) → ((g : Setting) (k : ServerKept) (l : ServerLive) → Stands old g k l → Stands new g k l) → ((g : Setting) → Serves old g → Serves new g) → site_of new ≡ site_of old
-    → Knows (record { core = old; up = u }) g k live → Knows (record { core = new; up = u }) g k live
-stays u old new g k live same serves site knows = record { serves = record { site = site ∙ knows.serves.site; setting = serves g knows.serves.setting }; by = knows_same u old new g k.disk live (same g k.disk) knows.by }
+-- what is kept once the note is written
+landed_is : (k : Numbered ServerKept) (o : Option HeldEpoch) → land (numbered server_rows).lands (option_map note_of o) k ≡ record { number = k.number; disk = landed o k.disk }
+landed_is k h = grind arith
 
--- what a turn makes of what the server knows, and its row
-pub record Goes (core : ServerCore) (turn : Turn) (g : Setting) (k : ServerKept) (out : Out ServerLive) : Type 0 where
-  pub row : IsRow g out turn
-  pub makes : Makes core turn g k out.live
+-- what the turn sends and makes has spellings, and the disk takes its note
+pub record IsFit (old new : ServerCore) (turn : Turn) : Type 0 where
+  pub packets : All (λ (p : Node × Packet). IsPacket p.1) turn.packets.items
+  pub spelled : IsSpelledTurn new turn.note turn.change
+  pub taken : IfSome (option_map note_of turn.note) (λ n. is_next_epoch old.held.epoch n ≡ true)
 
-module _ (old new : ServerCore) (epoch : ℕ) (turn : Turn) where
-  start_goes : (g : Setting) (k : ServerKept) → Decides old new epoch Start turn → Serves old g → epoch ≡ k.epoch → Goes new turn g k (server_start k)
-  start_goes g k d serves e =
-      let is = d.starts refl g k in record {
-        row = let row = is (server_start k).live e in record { note = row.note; packets = row.packets };
-        makes = inr (d.serves g serves, d.begins refl k e, λ l. ap (λ (s : ℕ). changed g s turn.change l) d.site ∙ (is l e).live);
-      }
+-- the core decided, and what it knows stays as it is
+module _ (old new : ServerCore) (same : (g : Setting) (k : ServerKept) (l : ServerLive) → Stands old g k l → Stands new g k l) (station : new.station ≡ old.station) where
+  site : site_of new ≡ site_of old
+  site = ap (λ (s : Station). s.site) station
 
-  other_goes : (i : Input) (g : Setting) (k : ServerKept) (l : ServerLive) → (i ≡ Start → ⊥) → Decides old new epoch i turn → Stands old g k l → Goes new turn g k (server_turn g (site_of old) k l i)
-  other_goes i g k l not_start d stands =
-      let is = d.goes not_start g k l stands in record {
-        row = record { note = is.note; packets = is.packets };
-        makes = inl (l, d.same g k l stands, ap (λ (s : ℕ). changed g s turn.change l) d.site ∙ is.live);
-      }
+  pub still_spelled : IsSpelledCore old → IsSpelledCore new
+  still_spelled so = record { setting = so.setting; kept = so.kept; live = so.live; stands = same so.setting so.kept so.live so.stands; plan = subst (IsSpelledPlan so.setting) (sym site) so.plan; spelled = so.spelled }
 
-  up_goes : (i : Input) (u : Bool) (g : Setting) (k : SiteKept) (l : ServerLive) → (i ≡ Start → ⊥) → Decides old new epoch i turn → Knows (record { core = old; up = u }) g k (Some l) → Goes new turn g k.disk (server_turn g k.site k.disk l i)
-  up_goes i u g k l not_start d knows =
-      subst (λ (s : ℕ). Goes new turn g k.disk (server_turn g s k.disk l i)) knows.serves.site (other_goes i g k.disk l not_start d (up_by u old g k.disk l knows.by))
+  pub still_knows : (g : Setting) (k : Numbered ServerKept) (live : Option ServerLive) → Knows old g k live → Knows new g k live
+  still_knows g k live knows = record { site = site ∙ knows.site; stands = same g k.disk (known live) knows.stands }
 
-  pub goes : (i : Input) (u : Bool) (g : Setting) (k : SiteKept) (live : Option ServerLive) → Decides old new epoch i turn → Knows (record { core = old; up = u }) g k live → epoch ≡ k.disk.epoch → Fits live i → Goes new turn g k.disk (row_of server_rows g k live i)
-  goes Start u g k None d knows e fits = start_goes g k.disk d knows.serves.setting e
-  goes _ u g k None d knows e fits = absurd fits
-  goes Start u g k (Some l) d knows e fits = absurd fits
-  goes Own u g k (Some l) d knows e fits = up_goes Own u g k l (λ s. absurd (cc s)) d knows
-  goes Tick u g k (Some l) d knows e fits = up_goes Tick u g k l (λ s. absurd (cc s)) d knows
-  goes (Deliver from p) u g k (Some l) d knows e fits = up_goes (Deliver from p) u g k l (λ s. absurd (cc s)) d knows
-
-  -- what it sends and makes has spellings, and its note is of the next epoch
-  pub record IsFit : Type 0 where
-    pub packets : All (λ (p : Node × Packet). IsPacket p.1) turn.packets.items
-    pub spelled : IsSpelledTurn new turn
-    pub noted : IsNextNote epoch turn.note
-
-  fit_by : (g : Setting) (k : ServerKept) (out : Out ServerLive) → IsSpelledPlan g (site_of old) → site_of new ≡ site_of old → Goes new turn g k out → Sends out.packets → IsSpelledLive (land land_server out.note k) out.live → IsNextNote epoch turn.note → IsFit
-  fit_by g k out plan site goes sends live noted = record {
-    packets = sent_ok g out.packets turn.packets.items sends goes.row.packets;
-    spelled =
+  -- on this input, this turn
+  module _ (i : Input) (turn : Turn) (turns : (g : Setting) (k : ServerKept) (l : ServerLive) → Stands old g k l → IsTurn g (site_of old) l turn (core_row g (site_of old) k l i)) where
+    pub fit : IsSpelledCore old → IsInput i → MayRaise old.held.epoch i → IsFit old new turn
+    fit so is low =
+        let g = so.setting in
+        let k = so.kept in
+        let out = core_row g (site_of old) k so.live i in
+        let row = turns g k so.live so.stands in
+        let ok = row_fits g (site_of old) so.plan k so.live so.spelled i is (subst (λ (e : ℕ). MayRaise e i) so.stands.epoch low) in
         record {
-          setting = g;
-          kept = k;
-          next = out.live;
-          makes = goes.makes;
-          plan = subst (IsSpelledPlan g) (sym site) plan;
-          spelled = subst (λ (n : Option Note). IsSpelledLive (land land_server n k) out.live) (sym goes.row.note) live;
-        };
-    noted = noted;
-  }
+          packets = sent_ok g out.packets turn.packets.items ok.packets row.packets;
+          spelled =
+              record {
+                setting = g;
+                kept = k;
+                next = out.live;
+                makes = (so.live, same g k so.live so.stands, ap (λ (s : ℕ). changed g s turn.change so.live) site ∙ row.live);
+                plan = subst (IsSpelledPlan g) (sym site) so.plan;
+                spelled = subst (λ (n : Option Note). IsSpelledLive (land land_server n k) out.live) (sym row.note) ok.spelled;
+              };
+          taken = subst (λ (e : ℕ). IfSome (option_map note_of turn.note) (λ n. is_next_epoch e n ≡ true)) (sym so.stands.epoch) (subst (λ (o : Option Note). IfSome o (λ n. is_next_epoch k.epoch n ≡ true)) (sym row.note) ok.taken);
+        }
 
-  quiet_note : (o : Option ServerNote) (n : Option Note) → option_map note_of o ≡ n → n ≡ None → IsNextNote epoch o
-  quiet_note None n e none = tt
-  quiet_note (Some x) n e none = absurd (cc)
+    pub turned : (g : Setting) (k : Numbered ServerKept) (live : Option ServerLive) → IfSome (option_map note_of turn.note) (λ n. is_next_epoch old.held.epoch n ≡ true) → Knows old g k live → Fits live i
+        → IsTaken (numbered server_rows).lands (λ x n. is_next_epoch x.disk.epoch n) (ServesSite new g) (GoesOn new turn.note turn.change g) g k (row_of (numbered server_rows) g k live i) (option_map note_of turn.note) turn.packets.items
+    turned g k live taken knows fits =
+        let out = row_of (numbered server_rows) g k live i in
+        let l = known live in
+        let now = still_knows g k live knows in
+        let row = subst (λ (s : ℕ). IsTurn g s l turn (core_row g s k.disk l i)) knows.site (turns g k.disk l knows.stands) in
+        let is = subst (λ (o : Out ServerLive). IsTurn g k.number l turn o) (row_is g k live i fits) row in
+        grind (arith, is_next_epoch, note_of, site, landed_is, land, numbered)
 
-  other_fit : (i : Input) → (i ≡ Start → ⊥) → IsSpelledCore old → IsInput i → Decides old new epoch i turn → IsFit
-  other_fit i not_start so is d =
-      let out = server_turn so.setting (site_of old) so.kept so.live i in
-      let ok = turn_ok so.setting (site_of old) so.plan so.kept so.live so.spelled i is in
-      let goes = other_goes i so.setting so.kept so.live not_start d so.stands in
-      fit_by so.setting so.kept out so.plan d.site goes ok.packets (subst (λ (n : Option Note). IsSpelledLive (land land_server n so.kept) out.live) (sym ok.quiet) ok.live) (quiet_note turn.note out.note goes.row.note ok.quiet)
+-- the core kept a turn of this note, which makes these changes
+module _ (old new : ServerCore) (turn : Turn) (kept : (g : Setting) (k : ServerKept) (l : ServerLive) → Stands old g k l → Stands new g (landed turn.note k) (changed g (site_of old) turn.change l)) (station : new.station ≡ old.station) where
+  kept_site : site_of new ≡ site_of old
+  kept_site = ap (λ (s : Station). s.site) station
 
-  pub fit : (i : Input) → IsSpelledCore old → IsInput i → MayRaise epoch i → Decides old new epoch i turn → IsFit
-  fit Start so is low d =
-      let k : ServerKept = record { epoch = epoch } in
-      let goes = start_goes so.setting k d so.stands.config refl in
-      fit_by so.setting k (server_start k) so.plan d.site goes tt (start_ok k low) (subst (IsNextNote epoch) (sym (d.begins refl k refl).noted) (refl, low))
-  fit Own so is low d = other_fit Own (λ s. absurd (cc s)) so is d
-  fit Tick so is low d = other_fit Tick (λ s. absurd (cc s)) so is d
-  fit (Deliver from p) so is low d = other_fit (Deliver from p) (λ s. absurd (cc s)) so is d
+  made : (g : Setting) (k : ServerKept) (next : ServerLive) → Makes old turn.change g k next → Stands new g (landed turn.note k) next
+  made g k next makes = subst (Stands new g (landed turn.note k)) makes.2 (kept g k makes.0 makes.1)
 
--- keeping the turn
-pub keeps : (old new : ServerCore) (turn : Turn) (g : Setting) (k : ServerKept) (next : ServerLive) → ((l : ServerLive) → Stands old g k l → Stands new g (landed turn k) (changed g (site_of old) turn.change l))
-    → ((l : ServerLive) → Serves old g → Begins turn k → Stands new g (landed turn k) (changed g (site_of old) turn.change l)) → Makes old turn g k next → Stands new g (landed turn k) next
-keeps old new turn g k next kept begun makes =
-    ⊎_elim (λ up. subst (λ (l : ServerLive). Stands new g (landed turn k) l) up.2 (kept up.0 up.1))
-    (λ down. subst (λ (l : ServerLive). Stands new g (landed turn k) l) (down.2 next) (begun next down.0 down.1)) makes
+  pub keeps_spelled : IsSpelledTurn old turn.note turn.change → IsSpelledCore new
+  keeps_spelled so = record { setting = so.setting; kept = landed turn.note so.kept; live = so.next; stands = made so.setting so.kept so.next so.makes; plan = subst (IsSpelledPlan so.setting) (sym kept_site) so.plan; spelled = so.spelled }
 
--- what the core decides on what it takes for the input
-pub decides : {E : Type 0} (r : Result Turn E) (old new : ServerCore) (epoch : ℕ) (i : Input) (taken : ServerInput) → ((k : ServerKept) → i ≡ Start → epoch ≡ k.epoch → CarriesStart taken k) → ((j : Input) → i ≡ j → (j ≡ Start → ⊥) → Carries taken j)
-    → IfOk r (λ turn. (g : Setting) (k : ServerKept) (l : ServerLive) → CarriesStart taken k → IsTurn g (site_of old) l turn (server_start k)) → IfOk r (λ turn. (k : ServerKept) → CarriesStart taken k → Begins turn k)
-    → IfOk r (λ turn. (g : Setting) (k : ServerKept) (l : ServerLive) (j : Input) → Stands old g k l → Carries taken j → IsTurn g (site_of old) l turn (server_turn g (site_of old) k l j))
-    → ((g : Setting) (k : ServerKept) (l : ServerLive) → Stands old g k l → Stands new g k l) → ((g : Setting) → Serves old g → Serves new g) → site_of new ≡ site_of old → IfOk r (Decides old new epoch i)
-decides r old new epoch i taken start other starts begins turns same serves site =
-    all_three r _ _ _ _ starts begins turns
-    (λ turn a b t.
-    record {
-      starts = λ is g k l e. a g k l (start k is e);
-      begins = λ is k e. b k (start k is e);
-      goes = λ not_start g k l stands. t g k l i stands (other i refl not_start);
-      same = same;
-      serves = serves;
-      site = site;
-    })
+  pub keeps_on : (g : Setting) (k : Numbered ServerKept) (l : ServerLive) → GoesOn old turn.note turn.change g k l → Knows new g k (Some l)
+  keeps_on g k l on = subst (λ (x : Numbered ServerKept). Knows new g x (Some l)) (sym (on.is ∙ landed_is on.was turn.note)) (record { site = kept_site ∙ on.site; stands = made g on.was.disk l on.makes })

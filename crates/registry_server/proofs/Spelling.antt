@@ -1,6 +1,6 @@
 -- Where the server's numbers, what it knows and the input have spellings, so have the row's packets and what it knows next.
 use Rattle.std.proofs.Common.{◌≡◌, ℕ, suc, ◌+◌, ◌^◌, ◌<◌, ◌≤◌, ◌||◌, Bool, true, List, [], ◌∷◌, ◌++◌, length, take, Option, Some, None, refl, arith, nat_le, IfSome}
-use Rattle.registry_server.proofs.Words.{MOST_WAITING, LAST_SLOT, LAST_EPOCH, cond_both, ltb-true, and_parts, length-take, Each, each_append, at_set, EventId, same_id, Ballot, Token, Insert, Batch, Answer, Granted, Duplicate, same_token, bound_of, first_in, first_insert, replay_held, IsToken, IsInsert, IsAnswer, IsPlace, IsBallot, IsBatch, IsPrior, Place, higher, Phase, nobody, on_promise, on_accepted, Promising, Packet, Node, Input, To, IsPacket, Setting, shards, Out, idle, ServerKept, ServerLive, ShardState, Proposal, empty_shard, queued, to_from, is_below_limit, may_propose, first_shard, is_current, reply_if, replies, unanswered, with_shard, claimed, proposes, goes_on, accept_if, promised, accepted, nacked, gets_promise, gets_accepted, gets_nack, gets_chosen, again, all_again, server_gets, server_turn, server_start, IsSpelledPhase, IsSpelledProposal, IsSpelledShard, IsSpelledPlan, IsSpelledLive, IsInput}
+use Rattle.registry_server.proofs.Words.{MOST_WAITING, LAST_SLOT, LAST_EPOCH, cond_both, ltb-true, and_parts, length-take, Each, each_append, at_set, EventId, same_id, Ballot, Token, Insert, Batch, Answer, Granted, Duplicate, same_token, bound_of, first_in, first_insert, replay_held, IsToken, IsInsert, IsAnswer, IsPlace, IsBallot, IsBatch, IsPrior, Place, higher, Phase, nobody, on_promise, on_accepted, Promising, Packet, Node, Input, To, IsPacket, Setting, shards, Out, idle, ServerKept, ServerLive, ShardState, Proposal, empty_shard, queued, to_from, is_below_limit, may_propose, first_shard, is_current, reply_if, replies, unanswered, with_shard, claimed, proposes, goes_on, accept_if, promised, accepted, nacked, gets_promise, gets_accepted, gets_nack, gets_chosen, again, all_again, server_gets, server_turn, nothing_known, IsSpelledPhase, IsSpelledProposal, IsSpelledShard, IsSpelledPlan, IsSpelledLive, IsInput}
 use Rattle.turn_defs.specs.declared.packet.Packet.TheVariants as packet
 
 abbrev pub Sends : List (To × Packet) → Type 0
@@ -165,9 +165,9 @@ module _ (g : Setting) (site : ℕ) (plan : IsSpelledPlan g site) where
     pub turn_ok : (i : Input) → IsInput i → IsSpelledOut k (server_turn g site k l i)
     turn_ok h is = grind (arith, idle_ok, proposes_ok, first_is, all_ok, gets_ok)
 
-pub empty_ok : IsSpelledShard empty_shard
+empty_ok : IsSpelledShard empty_shard
 empty_ok = record { learned = tt; queue = tt; proposal = tt }
 
--- a server that begins anew
-pub start_ok : (k : ServerKept) → k.epoch < LAST_EPOCH → IsSpelledLive (record { epoch = suc k.epoch }) (server_start k).live
-start_ok k low = record { epoch = omega arith; round = omega arith; each = λ s. empty_ok }
+-- a server that is down
+pub nothing_ok : (e : ℕ) → e ≤ LAST_EPOCH → IsSpelledLive (record { epoch = e }) nothing_known
+nothing_ok e low = record { epoch = omega arith; round = omega arith; each = λ s. empty_ok }

@@ -1,6 +1,6 @@
 -- What a core stands for, shard by shard.
 use Rattle.std.proofs.Common.{◌≡◌, ℕ, zero, suc, ◌+◌, ◌-◌, ◌<◌, ◌≤◌, Bool, true, false, List, ◌++◌, length, get_or, Some, None, refl, sym, ap, ◌∙◌, subst, arith, Option}
-use Rattle.registry_server.proofs.Words.{LAST_SLOT, cond-false, cond_both, le-ltb, append-nil, append_assoc, Ballot, Insert, shard_count, Place, Packet, Node, To, Setting, shards, Out, idle, Addressed, ServerKept, ServerLive, ShardState, Proposal, first_shard, may_propose, owns, server_own, is_current, is_below_limit, server_gets, again, all_again, setting, IsShard, passes, Stands, Gives, IsTurn, IsAt, number_of, proposes_if, Shard, Test, Turn, ServerCore}
+use Rattle.registry_server.proofs.Words.{Input, core_row, LAST_SLOT, cond-false, cond_both, le-ltb, append-nil, append_assoc, Ballot, Insert, shard_count, Place, Packet, Node, To, Setting, shards, Out, idle, ServerKept, ServerLive, ShardState, Proposal, first_shard, may_propose, owns, server_own, is_current, is_below_limit, server_gets, again, all_again, setting, IsShard, passes, Stands, Gives, IsTurn, IsAt, number_of, proposes_if, Shard, Test, Turn, ServerCore}
 use Rattle.turn_defs.specs.declared.packet.Packet.TheVariants as packet
 use Rattle.registry_server.proofs.Sending.{addressed}
 
@@ -35,8 +35,7 @@ module _ (g : Setting) (site : ℕ) (k : ServerKept) (l : ServerLive) where
   module _ (n : ℕ) (most : shards g ≤ n) where
     -- a row that looks for a proposal there
     off : (F : Option Proposal → Out ServerLive) (at : Place) (b : Ballot) (st : ShardState) → at.shard ≡ n → F None ≡ idle l → ((q : Proposal) → is_current g at b st q ≡ false → F (Some q) ≡ idle l) → (o : Option Proposal) → F o ≡ idle l
-    off F at b st e none some None = none
-    off F at b st e none some (Some q) = grind arith
+    off h at b st e none some k = grind arith
 
     pub beyond : (from : Node) (p : Packet) → number_of g p ≡ Some n → ((x : Insert) → p ≡ packet.Insert x → n < shards g) → server_gets g site k l from p ≡ idle l
     beyond from h e in_table = grind arith
@@ -62,9 +61,9 @@ module _ (core : ServerCore) (g : Setting) (k : ServerKept) (l : ServerLive) (h 
   pub for_setting : (turn : Turn) (out : Setting → Out ServerLive) → Gives (setting core.station g) core.station.site l turn (out (setting core.station g)) → Gives g core.station.site l turn (out g)
   for_setting turn out gives = subst (λ z. Gives z core.station.site l turn (out z)) (sym setting_is) gives
 
--- what is sent is addressed
-pub turn_of : (g : Setting) (site : ℕ) (l : ServerLive) (turn : Turn) (out : Out ServerLive) → Gives g site l turn out → IsTurn g site l turn out
-turn_of g site l turn out h = record { note = h.note; packets = subst (λ ps. Addressed g ps turn.packets.items) h.packets (addressed g turn.packets.items); live = h.live }
+-- the turn on an input is that of its row, and what is sent is addressed
+pub turn_at : (g : Setting) (site : ℕ) (k : ServerKept) (l : ServerLive) (turn : Turn) (i j : Input) → i ≡ j → Gives g site l turn (core_row g site k l j) → IsTurn g site l turn (core_row g site k l i)
+turn_at g site k l turn i j is h = grind (arith, addressed)
 
 -- the server's own work, from the first shard that may propose
 pub first_passes : (P : ℕ → Bool) (from m n : ℕ) → Some n ≡ first_shard P from m → P n ≡ true

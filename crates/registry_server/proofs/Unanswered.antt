@@ -1,7 +1,6 @@
 -- Inserts that wait and have no answer, one more and those that are left.
 use Rattle.std.proofs.Common.{◌≡◌, true, false, cond, List, [], ◌∷◌, ◌++◌, length, None, refl, ◌∙◌, arith, Bool, Option, option_map, nat_le, ◌||◌}
-use Rattle.registry_server.proofs.Words.{MOST_WAITING, cons_option, Insert, Batch, Answer, answered, replays, IsUnanswered, answered-append, queued, put_last}
-use Rattle.batch_queue.specs.Waiting.{unanswered}
+use Rattle.registry_server.proofs.Words.{MOST_WAITING, cons_option, Insert, Batch, Answer, answered, replays, IsUnanswered, answered-append, queued, put_last, left_of as unanswered}
 
 -- none of those that are left has an answer
 pub none_left : (f : Insert → Option Answer) (xs : List Insert) → answered f (unanswered f xs) ≡ []

@@ -8,4 +8,3 @@ pub mod Rowed
 pub mod Spelled
 pub mod Registrars
 pub mod Node
-pub mod Kept

@@ -1,100 +1,59 @@
--- A server over its disk, beside the states that its entries lead through.
-use Rattle.std.specs.Prelude.{◌≡◌, ◌⊎◌, ℕ, ◌+◌, ◌==◌, List, Bool, true, false, if◌then◌else◌, Option, Some, None, option_map}
-use Rattle.registry_server.specs.Terms.{AreSpelled, Epoch, Input, JournalState, Keeps, KeepsOr, LAST_EPOCH, MayHold, Reads, Ready, ServerKept, ServerLive, Setting, Start, State, epoch_record, land, land_server, row}
-use Rattle.air_bus.specs.declared.entry.Input.{Input as Bytes}
-use Rattle.air_bus.specs.declared.entry.Input.TheVariants as bytes
-use Rattle.site_node.specs.declared.kind.NodeFault.{NodeFault}
-use Rattle.site_node.specs.declared.kind.NodeFault.TheVariants as fault
-use Rattle.registry_server.specs.Cores.{Decided, note_of}
-use Rattle.registry_server.specs.Registrars.{SiteKept, RegistrarView, ServesSite, Knows, IsNextNote, IsSpelledTurn, server_rows}
-use Rattle.registry_server.specs.declared.server_core.ServerCore.{ServerCore}
-use Rattle.registry_server.specs.declared.turn.ServerNote.{ServerNote}
-use Rattle.registry_server.specs.declared.turn.ServerNote.TheVariants as notes
-use Rattle.registry_server.specs.declared.turn.Turn.{Turn}
-
-abbrev pub ServerState : Type 0
-ServerState = State SiteKept ServerLive
-
--- the record of a note, if there is one
-abbrev pub recorded : Option ServerNote → Option (List ℕ)
-recorded None = None
-recorded (Some (notes.Epoch e)) = Some (epoch_record e)
-
--- the record of the epoch above the kept one
-abbrev pub next_record : ServerKept → List ℕ
-next_record k = epoch_record (k.epoch + 1)
-
--- the journal is at the kept epoch, and each image of the disk keeps it
-pub record Holds (e : ℕ) (image : List ℕ → Type 0) (state : JournalState) (k : ServerKept) : Type 0 where
-  pub ready : state ≡ Ready
-  pub epoch : e ≡ k.epoch
-  pub durable : (c : List ℕ) → image c → Keeps k.epoch c
+-- A server's journal, the records that it holds, and what a stop may leave of it.
+use Rattle.std.proofs.Common.{◌≡◌, ◌⊎◌, inl, inr, ⊎_elim, ℕ, ◌+◌, ◌<◌, List, Bool, true, false, refl, sym, ◌∙◌, subst}
+use Rattle.registry_server.specs.Terms.{JournalState, Keeps, KeepsOr, LAST_EPOCH, Numbered, Ready, ServerKept, Continues}
+use Rattle.outside.specs.Disk.{Throughout}
+use Rattle.gate_journal.proofs.Growth.{continues_same}
 
 -- the disk's bytes keep this epoch
-abbrev pub OnDisk : ServerKept → List ℕ → Type 0
-OnDisk k bytes = Keeps k.epoch bytes
+abbrev pub OnDisk : Numbered ServerKept → List ℕ → Type 0
+OnDisk k bytes = Keeps k.disk.epoch bytes
 
--- the epoch, or that of the note
-abbrev pub OnDiskOr : ServerKept → Option ServerNote → List ℕ → Type 0
-OnDiskOr k n bytes = OnDisk k bytes ⊎ OnDisk (land land_server (option_map note_of n) k) bytes
+abbrev pub is_ready : JournalState → Bool
+is_ready Ready = true
+is_ready _ = false
 
--- the disk's bytes hold what the state keeps, or that and the note of its open turn
-abbrev pub KeptOn : ServerState → List ℕ → Type 0
-KeptOn s bytes = (k : SiteKept) × MayHold server_rows s k × OnDisk k.disk bytes
+-- the journal is at the kept epoch
+pub record Holds (e : ℕ) (state : JournalState) (k : Numbered ServerKept) : Type 0 where
+  pub ready : state ≡ Ready
+  pub epoch : e ≡ k.disk.epoch
 
--- a start has no epoch left
-abbrev pub is_spent_at : ℕ → Input → Bool
-is_spent_at epoch Start = epoch == LAST_EPOCH
-is_spent_at epoch _ = false
+-- the framed epoch is above the journal's, and there is room for it
+pub record MayAppend (e next : ℕ) (state : JournalState) (Room : Type 0) : Type 0 where
+  pub ready : state ≡ Ready
+  pub above : next ≡ e + 1
+  pub low : e < LAST_EPOCH
+  pub room : Room
 
--- the kept epoch, where the input would raise it past the last one
-abbrev pub spent_at : ServerState → Bytes → Option ℕ
-spent_at s bytes.Start = if s.kept.disk.epoch == LAST_EPOCH then Some s.kept.disk.epoch else None
-spent_at s _ = None
-
--- why a turn isn't prepared
-abbrev pub IsNotPrepared : ℕ → Input → NodeFault → Type 0
-IsNotPrepared epoch i (fault.Spent e) = (e ≡ epoch) × (is_spent_at epoch i ≡ true)
-IsNotPrepared epoch i fault.Memory = Unit {0}
-IsNotPrepared epoch i _ = ⊥
+-- nothing but room was made
+pub record IsCalm (e e' : ℕ) (state state' : JournalState) {D : Type 0} (image : D → List ℕ → Type 0) (since : D → D → List ℕ → Type 0) (old new : D) : Type 0 where
+  pub same_epoch : e' ≡ e
+  pub same_state : state' ≡ state
+  pub moments : Throughout image since old new (image old)
 
 -- each image keeps the kept epoch or the one above it
-pub record Doubts (e : ℕ) (image : List ℕ → Type 0) (k : ServerKept) : Type 0 where
-  pub images : (c : List ℕ) → image c → KeepsOr k.epoch (k.epoch + 1) c
-  pub epoch : e ≡ k.epoch
+pub record Doubts (e : ℕ) (image : List ℕ → Type 0) (k with : Numbered ServerKept) : Type 0 where
+  pub images : (c : List ℕ) → image c → KeepsOr e (e + 1) c
+  pub epoch : e ≡ k.disk.epoch
+  pub with_is : with ≡ record { number = k.number; disk = record { epoch = e + 1 } }
 
--- the record is that of the next epoch, which the row of what the state's open turn began with notes
-pub record IsOpenAt (s : ServerState) (open_record : List ℕ) : Type 0 where
-  pub begun : Bytes
-  pub opened : s.opened ≡ Some begun
-  pub input : Input
-  pub reads : Reads s.setting begun input
-  pub noted : (row server_rows s input).note ≡ Some (Epoch (s.kept.disk.epoch + 1))
-  pub is : open_record ≡ next_record s.kept.disk
+-- whatever a stop leaves keeps the epoch that the journal holds
+pub held_images : (e : ℕ) (state : JournalState) (k : Numbered ServerKept) → Holds e state k → (c : List ℕ) → Keeps e c → OnDisk k c
+held_images e state k h c keeps = subst (λ (x : ℕ). Keeps x c) h.epoch keeps
 
--- after an append that failed: nothing is in doubt, or the note is
-abbrev pub HoldsOr : Option (List ℕ) → Option ServerNote → ℕ → (List ℕ → Type 0) → JournalState → ServerKept → Type 0
-HoldsOr None n epoch image state k = Holds epoch image state k
-HoldsOr (Some r) n epoch image state k = Doubts epoch image k × (n ≡ Some (notes.Epoch (k.epoch + 1))) × (r ≡ next_record k)
+-- or, in doubt, one of the two
+pub doubt_images : (e : ℕ) (image : List ℕ → Type 0) (k with : Numbered ServerKept) → Doubts e image k with → (c : List ℕ) → image c → OnDisk k c ⊎ OnDisk with c
+doubt_images e image k with d c here =
+    ⊎_elim (λ old. inl (subst (λ (x : ℕ). Keeps x c) d.epoch old)) (λ new. inr (subst (λ (x : Numbered ServerKept). OnDisk x c) (sym d.with_is) new)) (d.images c here)
 
--- without a record in doubt the node knows what it keeps; else it was stopped in its open turn
-abbrev pub StandsBy : Option (List ℕ) → ℕ → (List ℕ → Type 0) → JournalState → RegistrarView → ServerState → Type 0
-StandsBy None epoch image state v s = Holds epoch image state s.kept.disk × Knows v s.setting s.kept s.live
-StandsBy (Some r) epoch image state v s = Doubts epoch image s.kept.disk × IsOpenAt s r × ServesSite v s.setting s.kept
+-- where no call is made
+pub calm_still : {D : Type 0} (e : ℕ) (state : JournalState) (image : D → List ℕ → Type 0) (since : D → D → List ℕ → Type 0) (disk : D) → ((c : List ℕ) → since disk disk c → image disk c) → IsCalm e e state state image since disk disk
+calm_still e state image since disk starts = record { same_epoch = refl; same_state = refl; moments = record { each = starts; now = λ c here. here; before = λ s c left. inl left } }
 
--- the node, of these parts, stands at the state
-pub record StandsAt (n : ℕ) (open_record : Option (List ℕ)) (epoch : ℕ) (image : List ℕ → Type 0) (state : JournalState) (v : RegistrarView) (s : ServerState) : Type 0 where
-  pub site : s.kept.site ≡ n
-  pub by : StandsBy open_record epoch image state v s
-
--- the state of a node that is down, over a disk that keeps this epoch
-abbrev pub down_over : Setting → (site epoch : ℕ) → ServerState
-down_over g site epoch = record { setting = g; kept = record { site = site; disk = record { epoch = epoch } }; live = None; opened = None }
-
--- the turn's packets and its note are spelled, and it can be kept
-pub record IsReady (core : ServerCore) (epoch : ℕ) (turn : Turn) (sent : List (ℕ × List ℕ)) (framed : Option (List ℕ)) : Type 0 where
-  pub decided : Decided core turn
-  pub spelled : IsSpelledTurn core turn
-  pub packets : AreSpelled turn.packets.items sent
-  pub next : IsNextNote epoch turn.note
-  pub noted : framed ≡ recorded turn.note
+-- room changes nothing of what is kept
+pub calm_stays : {D : Type 0} (e e' : ℕ) (state state' : JournalState) (image : D → List ℕ → Type 0) (since : D → D → List ℕ → Type 0) (old new : D) (k : Numbered ServerKept) → IsCalm e e' state state' image since old new → Holds e state k → ((c : List ℕ) → image old c → Keeps e c)
+    → Holds e' state' k × ((c : List ℕ) → since old new c → OnDisk k c) × ((c : List ℕ) → image new c → Continues (image old) c)
+calm_stays e e' state state' image since old new k calm h durable = (
+  record { ready = calm.same_state ∙ h.ready; epoch = calm.same_epoch ∙ h.epoch },
+  λ c left. held_images e state k h c (durable c (calm.moments.each c left)),
+  λ c here. continues_same (image old) c (calm.moments.now c here),
+)

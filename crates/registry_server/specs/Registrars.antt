@@ -1,72 +1,40 @@
--- A server that is up or down, as its rows see it.
-use Rattle.std.specs.Prelude.{◌≡◌, ◌⊎◌, ℕ, ◌+◌, ◌<◌, Bool, true, false, Option, Some, None, option_map}
-use Rattle.registry_server.specs.Terms.{Addressed, Input, LAST_EPOCH, Out, Rows, ServerKept, ServerLive, Setting, Start, land, land_server, server_start, server_turn}
-use Rattle.registry_server.specs.Cores.{Stands, Serves, Begins, changed, note_of, site_of}
+-- A server's core beside the records of its disk.
+use Rattle.std.specs.Prelude.{◌≡◌, ℕ, ◌+◌, ◌==◌, ◌&&◌, nat_lt, Bool, false, Option, Some, None, option_map}
+use Rattle.registry_server.specs.Terms.{Epoch, Input, LAST_EPOCH, Note, Numbered, ServerKept, ServerLive, Setting, Start, land, numbered, server_rows}
+use Rattle.registry_server.specs.Cores.{Stands, FitsChange, changed, landed, note_of, nothing_known, site_of}
 use Rattle.registry_server.specs.Spelled.{IsSpelledPlan, IsSpelledLive}
 use Rattle.registry_server.specs.declared.server_core.ServerCore.{ServerCore}
-use Rattle.registry_server.specs.declared.turn.ServerNote.{ServerNote}
-use Rattle.registry_server.specs.declared.turn.ServerNote.TheVariants as notes
-use Rattle.registry_server.specs.declared.turn.Turn.{Turn}
+use Rattle.registry_server.specs.declared.turn.Change.{Change}
+use Rattle.registry_server.specs.declared.notes.HeldEpoch.{HeldEpoch}
 
--- the site of a server, and what its disk holds
-pub record SiteKept : Type 0 where
-  pub site : ℕ
-  pub disk : ServerKept
+-- what a server knows, up or down
+abbrev pub known : Option ServerLive → ServerLive
+known None = nothing_known
+known (Some l) = l
 
--- the rows of a server as those of a kind of node
-abbrev pub server_rows : Rows SiteKept ServerLive
-server_rows =
-    record {
-      start = λ k. server_start k.disk;
-      turn = λ g k l i. server_turn g k.site k.disk l i;
-      lands = λ n k. record { site = k.site; disk = land_server n k.disk };
-    }
+-- the core is a server of the site and the setting, whatever it knows
+pub record ServesSite (core : ServerCore) (g : Setting) (k : Numbered ServerKept) : Type 0 where
+  pub site : site_of core ≡ k.number
+  pub setting : g.config ≡ core.station.config
 
--- what contracts see of a registrar
-pub record RegistrarView : Type 0 where
-  pub core : ServerCore
-  pub up : Bool
+-- and it knows this
+pub record Knows (core : ServerCore) (g : Setting) (k : Numbered ServerKept) (live : Option ServerLive) : Type 0 where
+  pub site : site_of core ≡ k.number
+  pub stands : Stands core g k.disk (known live)
 
--- up, its core stands for what the disk holds and for what the server knows
-abbrev pub KnowsAs : Bool → ServerCore → Setting → ServerKept → Option ServerLive → Type 0
-KnowsAs true core g k (Some l) = Stands core g k l
-KnowsAs true core g k None = ⊥
-KnowsAs false core g k (Some l) = ⊥
-KnowsAs false core g k None = Unit {0}
+-- a start has no epoch left
+abbrev pub is_spent_at : ℕ → Input → Bool
+is_spent_at epoch Start = epoch == LAST_EPOCH
+is_spent_at epoch _ = false
 
--- its core is a server of the site and the setting, whatever it knows
-pub record ServesSite (v : RegistrarView) (g : Setting) (k : SiteKept) : Type 0 where
-  pub site : site_of v.core ≡ k.site
-  pub setting : Serves v.core g
+-- the note is of the epoch above this one, which isn't the last
+abbrev pub is_next_epoch : ℕ → Note → Bool
+is_next_epoch epoch (Epoch e) = nat_lt epoch LAST_EPOCH && e == epoch + 1
+is_next_epoch epoch _ = false
 
-pub record Knows (v : RegistrarView) (g : Setting) (k : SiteKept) (live : Option ServerLive) : Type 0 where
-  pub serves : ServesSite v g k
-  pub by : KnowsAs v.up v.core g k.disk live
-
--- a start may raise the epoch
-abbrev pub MayRaise : ℕ → Input → Type 0
-MayRaise epoch Start = epoch < LAST_EPOCH
-MayRaise epoch _ = Unit {0}
-
--- a note is of the epoch above this one, which isn't the last
-abbrev pub IsNextNote : ℕ → Option ServerNote → Type 0
-IsNextNote epoch None = Unit {0}
-IsNextNote epoch (Some (notes.Epoch e)) = (e ≡ epoch + 1) × (epoch < LAST_EPOCH)
-
--- the turn's note and its packets are the row's
-pub record IsRow (g : Setting) (out : Out ServerLive) (turn : Turn) : Type 0 where
-  pub note : option_map note_of turn.note ≡ out.note
-  pub packets : Addressed g out.packets turn.packets.items
-
--- kept on the core, the turn makes this of what the server knows, whether it knew something or begins anew
-abbrev pub Makes : ServerCore → Turn → Setting → ServerKept → ServerLive → Type 0
-Makes core turn g k next =
-    ((l : ServerLive) × Stands core g k l × (changed g (site_of core) turn.change l ≡ next))
-    ⊎ (Serves core g × Begins turn k × ((l : ServerLive) → changed g (site_of core) turn.change l ≡ next))
-
--- what the disk holds once the turn's note is written
-abbrev pub landed : Turn → ServerKept → ServerKept
-landed turn k = land land_server (option_map note_of turn.note) k
+-- the change makes this of what the core knows
+abbrev pub Makes : ServerCore → Change → Setting → ServerKept → ServerLive → Type 0
+Makes core change g k next = (l : ServerLive) × Stands core g k l × (changed g (site_of core) change l ≡ next)
 
 -- the core stands for something that has spellings
 pub record IsSpelledCore (core : ServerCore) : Type 0 where
@@ -78,10 +46,22 @@ pub record IsSpelledCore (core : ServerCore) : Type 0 where
   pub spelled : IsSpelledLive kept live
 
 -- so it does once the turn is kept
-pub record IsSpelledTurn (core : ServerCore) (turn : Turn) : Type 0 where
+pub record IsSpelledTurn (core : ServerCore) (said : Option HeldEpoch) (change : Change) : Type 0 where
   pub setting : Setting
   pub kept : ServerKept
   pub next : ServerLive
-  pub makes : Makes core turn setting kept next
+  pub makes : Makes core change setting kept next
   pub plan : IsSpelledPlan setting (site_of core)
-  pub spelled : IsSpelledLive (landed turn kept) next
+  pub spelled : IsSpelledLive (landed said kept) next
+
+-- the turn can be kept
+pub record CanKeep (core : ServerCore) (said : Option HeldEpoch) (change : Change) : Type 0 where
+  pub fits : FitsChange change core.shards.items
+  pub spelled : IsSpelledTurn core said change
+
+-- kept, it makes these records and this knowledge
+pub record GoesOn (core : ServerCore) (said : Option HeldEpoch) (change : Change) (g : Setting) (k : Numbered ServerKept) (l : ServerLive) : Type 0 where
+  pub was : Numbered ServerKept
+  pub is : k ≡ land (numbered server_rows).lands (option_map note_of said) was
+  pub site : site_of core ≡ was.number
+  pub makes : Makes core change g was.disk l

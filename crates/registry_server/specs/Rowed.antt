@@ -1,13 +1,11 @@
 -- Rows at one shard: when they are taken, and in which form their functions give them.
 use Rattle.std.specs.Prelude.{◌≡◌, ℕ, suc, ◌<◌, ◌++◌, ◌∷◌, [], ◌&&◌, ◌==◌, List, if◌then◌else◌, Option, Some, None, ⊤}
-use Rattle.registry_server.specs.Terms.{Ballot, Batch, Out, Packet, Place, Proposer, ServerKept, ServerLive, Setting, ShardState, To, ballot_of, idle, learns, may_propose, proposes, replies, shard, shards, to_replicas, with_shard}
-use Rattle.ballot_core.specs.Ballots.{is_same as same_ballot}
+use Rattle.registry_server.specs.Terms.{Ballot, Batch, Out, Packet, Place, Proposer, ServerKept, ServerLive, Setting, ShardState, To, ballot_of, idle, learns, may_propose, proposes, replies, shard, shards, to_replicas, with_shard, same_ballot}
 use Rattle.turn_defs.specs.declared.packet.Packet.TheVariants as packet
 use Rattle.registry_server.specs.Stations.{setting}
 use Rattle.registry_server.specs.ShardStates.{IsShard, FitsStep}
-use Rattle.registry_server.specs.Cores.{Gives}
+use Rattle.registry_server.specs.Cores.{Gives, Turn}
 use Rattle.registry_server.specs.declared.station.Station.{Station}
-use Rattle.registry_server.specs.declared.turn.Turn.{Turn}
 use Rattle.registry_server.specs.declared.shard.Shard.{Shard}
 use Rattle.registry_server.specs.declared.turn.Change.{Change}
 use Rattle.registry_server.specs.declared.turn.Change.TheVariants as change
@@ -21,7 +19,6 @@ pub record IsAt (g : Setting) (h : Shard) (number r : ℕ) (l : ServerLive) : Ty
 -- the change is one of this shard alone, which has what it needs
 abbrev pub FitsAt : ℕ → Change → Shard → Type 0
 FitsAt n change.Nothing h = ⊤
-FitsAt n (change.Start shards) h = ⊥
 FitsAt n change.Tick h = ⊥
 FitsAt n (change.One s round step) h = (s ≡ n) × FitsStep step h
 

@@ -1,10 +1,7 @@
 -- Worked turns of the server of site 0, on one insert, which is of shard 3.
 use Rattle.std.specs.Prelude.{◌≡◌, ℕ, ◌-◌, ◌^◌, Bool, true, false, ◌==◌, List, [], ◌∷◌, if◌then◌else◌, Option, Some, None}
-use Rattle.registry_server.specs.Terms.{Accepting, Ballot, Batch, Deliver, Epoch, Input, Insert, Only, Out, Own, Packet, Phase, Place, Promising, Proposal, ServerKept, ServerLive, ShardState, Tick, To, empty_shard, nobody, server_at_rest, server_start, server_turn, server_unfinished, server_wants}
-use Rattle.registry_state.specs.declared.Answer.TheVariants.{Granted, Duplicate}
+use Rattle.registry_server.specs.Terms.{Accepting, Ballot, Batch, Deliver, Epoch, Input, Insert, Only, Out, Own, Packet, Phase, Place, Promising, Proposal, ServerKept, ServerLive, ShardState, Tick, To, empty_shard, nobody, server_at_rest, server_start, server_turn, server_unfinished, server_wants, Granted, Duplicate, Server, Replica, Joiner, worked, worked_late, token, insert, one_batch}
 use Rattle.turn_defs.specs.declared.packet.Packet.TheVariants as packet
-use Rattle.turn_defs.specs.declared.node.Node.TheVariants.{Server, Replica, Joiner}
-use Rattle.turn_defs.specs.Rows.{worked, worked_late, token, insert, one_batch}
 
 abbrev pub kept : ServerKept
 kept = record { epoch = 1 }

@@ -1,8 +1,6 @@
 -- A shard as the state that it stands for.
 use Rattle.std.specs.Prelude.{◌≡◌, ℕ, ◌<◌, ◌≤◌, ◌&&◌, ◌||◌, not, ◌++◌, ◌∷◌, [], Bool, true, false, List, length, get_or, nat_lt, nat_le, if◌then◌else◌, Option, Some, None, option_map, is_some, IfSome, ⊤}
-use Rattle.registry_server.specs.Terms.{Accepting, Answer, Ballot, Batch, Ended, Insert, Knows, LAST_SLOT, MOST_WAITING, Phase, Promising, Proposal, Proposer, Setting, ShardState, ballot_of, bound_of, is_below_limit, learns, may_propose, on_accepted, on_promise, own_of, phase_of, queued, room, shard_unfinished, waiting}
-use Rattle.batch_queue.specs.Queue.{room as places}
-use Rattle.batch_queue.specs.Waiting.{answered, replays, IsUnanswered}
+use Rattle.registry_server.specs.Terms.{Answer, Ballot, Batch, Ended, Insert, Knows, LAST_SLOT, MOST_WAITING, Phase, Proposal, Proposer, Setting, ShardState, ballot_of, bound_of, is_below_limit, learns, may_propose, on_accepted, on_promise, own_of, phase_of, queued, room, shard_unfinished, waiting, places, answered, replays, IsUnanswered}
 use Rattle.registry_server.specs.declared.shard.Shard.{Shard}
 use Rattle.registry_server.specs.declared.shard.Step.{Step}
 use Rattle.registry_server.specs.declared.shard.Step.TheVariants.{Queue, Propose, Promise, Accept, Learn, Hold}
@@ -18,9 +16,8 @@ state_of h learned = record { learned = learned; queue = waiting h.queue; propos
 
 -- the phase isn't the end
 abbrev pub is_going : Phase Batch → Bool
-is_going (Promising marks best) = true
-is_going (Accepting v marks) = true
 is_going Ended = false
+is_going _ = true
 
 -- The shard learned these values: the registry knows them, the next slot is their number, a proposal is for a slot below
 -- the limit and goes on, and they answer none of the inserts that wait.
@@ -71,10 +68,9 @@ TellsAnswered h v told = (vs : List Batch) → Knows h.registry vs → IsUnanswe
 abbrev pub FitsStep : Step → Shard → Type 0
 FitsStep (Queue x) h = (0 < places h.queue) × IsUnknown h x
 FitsStep (Propose p) h = (is_below_limit h.next ≡ true) × (is_going (phase_of p) ≡ true)
-FitsStep (Promise r prior) h = ⊤
 FitsStep (Accept r) h = NotLast r (option_map proposal_of h.proposal)
 FitsStep (Learn v told) h = (length v.inserts ≤ room h.registry) × (h.next < LAST_SLOT) × TellsAnswered h v told
-FitsStep Hold h = ⊤
+FitsStep _ h = ⊤
 
 -- what a test of a shard says
 abbrev pub passes : Setting → Test → ShardState → Bool

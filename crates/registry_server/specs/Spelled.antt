@@ -1,8 +1,7 @@
 -- What a server knows has spellings, so what it sends has them.
 use Rattle.std.specs.Prelude.{ℕ, ◌^◌, ◌<◌, ◌≤◌, length, IfSome}
 use Rattle.time_shards.specs.declared.TheConstants.{MAX_SHARDS}
-use Rattle.registry_server.specs.Terms.{Accepting, Batch, Each, Ended, MOST_INSERTS, Phase, Promising, Proposal, ServerKept, ServerLive, Setting, ShardState, shards}
-use Rattle.turn_defs.specs.Spellings.{IsInsert, IsBallot, IsBatch, IsPrior}
+use Rattle.registry_server.specs.Terms.{Accepting, Batch, Each, Ended, MOST_INSERTS, Phase, Promising, Proposal, ServerKept, ServerLive, Setting, ShardState, shards, IsInsert, IsBallot, IsBatch, IsPrior}
 
 abbrev pub IsSpelledPhase : Phase Batch → Type 0
 IsSpelledPhase (Promising marks best) = IsPrior best

@@ -1,8 +1,7 @@
 -- What is fixed for a server, as a setting; packets with their receivers.
 use Rattle.std.specs.Prelude.{List, map, Option, Some, None}
 use Rattle.std.specs.Borrow.{Bor}
-use Rattle.registry_server.specs.Terms.{Ballot, Batch, Node, Only, Packet, Place, Setting, To}
-use Rattle.turn_defs.specs.declared.packet.Packet.TheVariants.{Prepare, Accept}
+use Rattle.registry_server.specs.Terms.{Ballot, Batch, Node, Only, Packet, Place, Setting, To, Prepare, Accept}
 use Rattle.registry_server.specs.declared.station.Station.{Station}
 
 -- the setting with the server's config

@@ -2,6 +2,7 @@
 //! order, and answers each insert from them. The rows of its turns stand in `Server.antt` of `turn_defs`.
 #![tactic(auto)]
 
+mod epoch_records;
 pub mod laws;
 mod node;
 mod notes;
@@ -14,6 +15,9 @@ mod shards;
 mod station;
 mod turn;
 
-pub use node::ServerNode;
+pub use epoch_records::EpochRecords;
+pub use node::{ServerNode, into_disk, server_node};
+pub use notes::HeldEpoch;
+pub use registrar::{EpochKept, Registrar};
 pub use server_core::ServerCore;
-pub use turn::{ServerInput, ServerNote, Turn};
+pub use turn::{Change, Turn};

@@ -9,7 +9,7 @@ ghost use Rattle.registry_server.specs.Rowed.{IsAt, IsRow, IsRowOf, FitsAt, Stay
 use crate::packets::{ask_all, push_replies, push_reply};
 use crate::shard::{Shard, Step, Test};
 use crate::station::Station;
-use crate::turn::{Change, Turn};
+use crate::turn::{Change, Turn, idle, one};
 use ballot_core::Ballot;
 use paxos_defs::Place;
 use paxos_proposer::Proposer;
@@ -42,7 +42,7 @@ impl Shard {
             });
         }
         self.queue.make_room()?;
-        Ok(Turn::one(number, round, packets, Step::Queue(insert)))
+        Ok(one(number, round, packets, Step::Queue(insert)))
     }
 
     // The server's own work at this shard: where a proposal may begin, a ballot of the next round is drawn, and every
@@ -60,7 +60,7 @@ impl Shard {
         ensures fits { IfOk result (λ turn. FitsAt number turn.change self.now) }
     {
         if !self.passes(station, Test::MayPropose) {
-            return Ok(Turn::idle(station.alloc));
+            return Ok(idle(station.alloc));
         }
         let ballot = Ballot {
             round: round + 1,
@@ -74,7 +74,7 @@ impl Shard {
         let mut packets = Vec::new(station.alloc);
         ask_all(station, &mut packets, self.place(number), ballot, None)?;
         let proposer = Proposer::start(config.replicas, self.next, ballot, own);
-        Ok(Turn::one(number, round + 1, packets, Step::Propose(proposer)))
+        Ok(one(number, round + 1, packets, Step::Propose(proposer)))
     }
 
     // A replica promised the proposal's ballot. It is counted; the promise that makes a majority has every replica asked
@@ -94,7 +94,7 @@ impl Shard {
         ensures fits { IfOk result (λ turn. FitsAt number turn.change self.now) }
     {
         let Some(proposal) = self.current(slot, ballot) else {
-            return Ok(Turn::idle(station.alloc));
+            return Ok(idle(station.alloc));
         };
         let place = Place {
             shard: number,
@@ -102,7 +102,7 @@ impl Shard {
         };
         let packets = promised(station, proposal, place, from, ballot, prior)?;
         let kept = copied(prior)?;
-        Ok(Turn::one(number, round, packets, Step::Promise(from, kept)))
+        Ok(one(number, round, packets, Step::Promise(from, kept)))
     }
 
     // A replica accepted the proposal's value. It is counted; the acceptance that makes a majority has the value learned
@@ -122,15 +122,15 @@ impl Shard {
         ensures same { StaysShard self.old self.new }
     {
         let Some(proposal) = self.current(slot, ballot) else {
-            return Ok(Turn::idle(station.alloc));
+            return Ok(idle(station.alloc));
         };
         // A slot with a proposal is below the limit.
         if self.next >= LAST_SLOT {
-            return Ok(Turn::idle(station.alloc));
+            return Ok(idle(station.alloc));
         }
         let mut packets = Vec::new(station.alloc);
         if !proposal.on_accepted(from, ballot) {
-            return Ok(Turn::one(number, round, packets, Step::Accept(from)));
+            return Ok(one(number, round, packets, Step::Accept(from)));
         }
         let value = proposal.value().copy()?;
         let place = Place {
@@ -161,10 +161,10 @@ impl Shard {
         ensures fits { FitsAt number result.change self.now }
     {
         let Some(_) = self.current(slot, ballot) else {
-            return Turn::idle(station.alloc);
+            return idle(station.alloc);
         };
         let packets = Vec::new(station.alloc);
-        Turn::one(number, round.max(promised.round), packets, Step::Hold)
+        one(number, round.max(promised.round), packets, Step::Hold)
     }
 
     // The other server tells the value chosen at the next slot. It is learned, and each waiting insert answered that it
@@ -183,10 +183,10 @@ impl Shard {
         ensures same { StaysShard self.old self.new }
     {
         if slot != self.next {
-            return Ok(Turn::idle(station.alloc));
+            return Ok(idle(station.alloc));
         }
         if slot >= LAST_SLOT {
-            return Ok(Turn::idle(station.alloc));
+            return Ok(idle(station.alloc));
         }
         let packets = Vec::new(station.alloc);
         self.learned(station, number, round, batch.copy()?, packets)
@@ -212,7 +212,7 @@ impl Shard {
         let bound = self.registry.bound();
         let answered = self.queue.answered(&self.registry, bound, &value)?;
         push_replies(station, &mut packets, answered.as_slice())?;
-        Ok(Turn::one(number, round, packets, Step::Learn(value, answered)))
+        Ok(one(number, round, packets, Step::Learn(value, answered)))
     }
 
     // A packet that is about this shard.
@@ -236,7 +236,7 @@ impl Shard {
             }
             _ => match from {
                 Node::Replica(replica) => self.hears(station, number, round, replica, packet),
-                _ => Ok(Turn::idle(station.alloc)),
+                _ => Ok(idle(station.alloc)),
             },
         }
     }
@@ -269,7 +269,7 @@ impl Shard {
                 ballot,
                 promised,
             } => Ok(self.gets_nack(station, number, round, place.slot, *ballot, *promised)),
-            _ => Ok(Turn::idle(station.alloc)),
+            _ => Ok(idle(station.alloc)),
         }
     }
 

@@ -1,22 +1,21 @@
 // The core: its shards, and which of them a turn is about.
-ghost use Rattle.std.specs.Prelude.{◌≡◌, length};
-ghost use Rattle.registry_server.specs.Terms.{LAST_EPOCH};
-ghost use Rattle.time_shards.specs.Shards.{shard_count};
+ghost use Rattle.std.specs.Prelude.{◌≡◌, length, ◌<◌, IfOk, IfSome, Some, None};
+ghost use Rattle.registry_server.specs.Terms.{LAST_EPOCH, shard_count, Insert as Claim, Setting, shards, ServerKept, ServerLive, first_shard, server_own, server_tick, server_gets, server_wants, server_unfinished, server_at_rest};
 
-use crate::notes::epoch_after;
+use crate::notes::HeldEpoch;
 use crate::shard::{Shard, Test};
-use crate::shards::{empty_shards, release_all};
+use crate::shards::{clear_all, empty_shards, release_all};
 use crate::station::Station;
-use crate::turn::{Change, ServerInput, ServerNote, Turn};
+use crate::turn::{Change, Turn, held_after, idle};
 use std::alloc::AllocError;
-use turn_defs::{Config, LAST_SLOT, Node, Packet};
+use turn_defs::{Input, LAST_SLOT, Node, Packet};
 
 /// The registry server of a site, between its turns. A turn is decided, its note written and its packets sent, and then
-/// it is kept.
+/// it is kept. While it is down it knows nothing but the epoch on its disk.
 #[derive(Debug, Drop)]
 pub struct ServerCore {
     station: Station,
-    epoch: u32,
+    pub(crate) held: HeldEpoch,
     // the greatest round used or told
     round: u64,
     // one for each shard of the table
@@ -25,36 +24,23 @@ pub struct ServerCore {
 }
 
 impl ServerCore {
-    ghost use Rattle.std.specs.Prelude.{◌≡◌, ◌<◌, ◌≤◌, ◌++◌, ◌∷◌, [], length, IfOk, IfSome, Some, None, option_map};
-    ghost use Rattle.turn_defs.specs.declared.node.Input.{Input};
-    ghost use Rattle.registry_state.specs.declared.Insert.{Insert as Claim};
-    ghost use Rattle.turn_defs.specs.Setting.{Setting, shards};
-    ghost use Rattle.turn_defs.specs.Turns.{land};
-    ghost use Rattle.turn_defs.specs.Server.{ServerKept, ServerLive, empty_shard, first_shard, land_server, server_own, server_tick, server_gets, server_turn, server_start, server_wants, server_unfinished, server_at_rest};
     ghost use Rattle.registry_server.specs.Stations.{setting, sent};
     ghost use Rattle.registry_server.specs.ShardStates.{passes};
-    ghost use Rattle.registry_server.specs.Cores.{Stands, IsTurn, Gives, Decided, FitsChange, Carries, CarriesStart, MayStart, Serves, IsStart, Begins, changed, note_of, site_of};
+    ghost use Rattle.registry_server.specs.Cores.{Stands, IsTurn, Gives, Decided, FitsChange, MayRaise, changed, core_row, landed, nothing_known, site_of};
     ghost use Rattle.registry_server.specs.Rowed.{number_of};
 
-    // A server before its first start. One allocation, for the table's shards.
-    pub(crate) fn new(station: Station) -> Result<ServerCore, AllocError>
-        ensures stands { IfOk result (λ core. (g : Setting) → g.config ≡ station.config → Stands core g (record { epoch = 0 }) (record { round = 0; shards = λ s. empty_shard })) }
+    // A server that is down, over this epoch. One allocation, for the table's shards.
+    pub(crate) fn new(station: Station, held: HeldEpoch) -> Result<ServerCore, AllocError>
+        ensures stands { IfOk result (λ core. (g : Setting) → g.config ≡ station.config → Stands core g (record { epoch = held.epoch }) nothing_known) }
         ensures site { IfOk result (λ core. site_of core ≡ station.site) }
     {
         let shards = empty_shards(station.alloc, station.config.table.shards())?;
         Ok(ServerCore {
             station,
-            epoch: 0,
+            held,
             round: 0,
             shards,
         })
-    }
-
-    /// The numbers of its run.
-    pub fn config(&self) -> Config
-        ensures { result ≡ self.now.station.config }
-    {
-        self.station.config
     }
 
     /// The turn on an input. It makes room for what keeping the turn does, and changes nothing else, nor anything where
@@ -63,24 +49,20 @@ impl ServerCore {
     /// An insert takes expected time logarithmic in the inserts that wait, the server's own work time linear in a batch. A
     /// value that is learned takes logarithmic expected time for each insert of it, and for each that waits and is answered
     /// time linear in the batch as well. Where it raises the bound, which is rare, it looks at each insert that waits, at
-    /// most 4,096. A tick takes time linear in the shards, at most 16. A start allocates the empty shards.
-    pub fn decide(&mut self, input: &ServerInput) -> Result<Turn, AllocError>
-        requires { MayStart input.now }
-        ensures start { IfOk result (λ turn. (g : Setting) (k : ServerKept) (l : ServerLive) → CarriesStart input.now k
-            → IsTurn g (site_of self.old) l turn (server_start k)) }
-        ensures begins { IfOk result (λ turn. (k : ServerKept) → CarriesStart input.now k → Begins turn k) }
-        ensures turn { IfOk result (λ turn. (g : Setting) (k : ServerKept) (l : ServerLive) (i : Input) → Stands self.old g k l → Carries input.now i
-            → IsTurn g (site_of self.old) l turn (server_turn g (site_of self.old) k l i)) }
+    /// most 4,096. A tick takes time linear in the shards, at most 16. A start takes no memory.
+    #[tactic(auto, using(crate::proofs::Standing::turn_at))]
+    pub fn decide(&mut self, input: &Input) -> Result<Turn, AllocError>
+        requires { MayRaise self.old.held.epoch input.now }
+        ensures turn { IfOk result (λ turn. (g : Setting) (k : ServerKept) (l : ServerLive) → Stands self.old g k l → IsTurn g (site_of self.old) l turn (core_row g (site_of self.old) k l input.now)) }
         ensures decided { IfOk result (λ turn. Decided self.new turn) }
         ensures same { (g : Setting) (k : ServerKept) (l : ServerLive) → Stands self.old g k l → Stands self.new g k l }
-        ensures serves { (g : Setting) → Serves self.old g → Serves self.new g }
-        ensures site { site_of self.new ≡ site_of self.old }
+        ensures station { self.new.station ≡ self.old.station }
     {
         match input {
-            ServerInput::Start { epoch } => self.start(*epoch),
-            ServerInput::Own => self.own(),
-            ServerInput::Tick => self.tick(),
-            ServerInput::Packet { from, packet } => self.gets(*from, packet),
+            Input::Start => Ok(self.start()),
+            Input::Own => self.own(),
+            Input::Tick => self.tick(),
+            Input::Deliver { from, packet } => self.gets(*from, packet),
         }
     }
 
@@ -89,20 +71,26 @@ impl ServerCore {
     /// the shards, and all else constant expected time.
     pub fn keep(&mut self, turn: Turn)
         requires { Decided self.old turn }
-        ensures kept { (g : Setting) (k : ServerKept) (l : ServerLive) → Stands self.old g k l
-            → Stands self.new g (land land_server (option_map note_of turn.note) k) (changed g (site_of self.old) turn.change l) }
-        // A start asks nothing of what the server knew.
-        ensures begun { (g : Setting) (k : ServerKept) (l : ServerLive) → Serves self.old g → Begins turn k
-            → Stands self.new g (land land_server (option_map note_of turn.note) k) (changed g (site_of self.old) turn.change l) }
-        ensures site { site_of self.new ≡ site_of self.old }
+        ensures kept { (g : Setting) (k : ServerKept) (l : ServerLive) → Stands self.old g k l → Stands self.new g (landed turn.note k) (changed g (site_of self.old) turn.change l) }
+        ensures station { self.new.station ≡ self.old.station }
     {
         let Turn {
             note,
             packets: _,
             change,
         } = turn;
-        self.epoch = epoch_after(self.epoch, note);
+        self.held = held_after(self.held, note);
         self.change(change);
+    }
+
+    /// It is down, over this epoch, whatever it knew. It takes time linear in what it knew, and no memory.
+    pub(crate) fn put_down(&mut self, held: HeldEpoch)
+        ensures stands { (g : Setting) → g.config ≡ self.old.station.config → Stands self.new g (record { epoch = held.epoch }) nothing_known }
+        ensures station { self.new.station ≡ self.old.station }
+    {
+        self.held = held;
+        self.round = 0;
+        clear_all(&mut self.shards, self.station.alloc);
     }
 
     /// Whether it has work of its own to do: some shard may have a proposal. Linear in the shards, at most 16.
@@ -131,16 +119,10 @@ impl ServerCore {
         requires { FitsChange change self.old.shards.items }
         ensures kept { (g : Setting) (k : ServerKept) (l : ServerLive) → Stands self.old g k l
             → Stands self.new g k (changed g (site_of self.old) change l) }
-        ensures begun { (g : Setting) (k : ServerKept) (l : ServerLive) → Serves self.old g → self.old.epoch ≡ k.epoch → IsStart change
-            → Stands self.new g k (changed g (site_of self.old) change l) }
-        ensures site { site_of self.new ≡ site_of self.old }
+        ensures station { self.new.station ≡ self.old.station }
     {
         match change {
             Change::Nothing => {}
-            Change::Start(shards) => {
-                self.round = 0;
-                self.shards = shards;
-            }
             Change::Tick => release_all(&mut self.shards),
             Change::One { shard, round, step } => {
                 self.round = round;
@@ -149,20 +131,18 @@ impl ServerCore {
         }
     }
 
-    // It comes up: the next epoch is written, and nothing is known.
-    fn start(&self, epoch: u32) -> Result<Turn, AllocError>
-        requires { epoch < LAST_EPOCH }
-        ensures begins { IfOk result (λ turn. (k : ServerKept) → epoch ≡ k.epoch → Begins turn k) }
-        ensures start { IfOk result (λ turn. (g : Setting) (k : ServerKept) (l : ServerLive) → epoch ≡ k.epoch
-            → Gives g (site_of self.now) l turn (server_start k)) }
-        ensures decided { IfOk result (λ turn. Decided self.now turn) }
+    // It comes up: the next epoch is written.
+    fn start(&self) -> Turn
+        requires { self.now.held.epoch < LAST_EPOCH }
+        ensures row { (g : Setting) (k : ServerKept) (l : ServerLive) → Stands self.now g k l → Gives g (site_of self.now) l result (core_row g (site_of self.now) k l Input.Start) }
+        ensures decided { Decided self.now result }
     {
-        let shards = empty_shards(self.station.alloc, self.station.config.table.shards())?;
-        Ok(Turn {
-            note: Some(ServerNote::Epoch(epoch + 1)),
+        let epoch = self.held.epoch + 1;
+        Turn {
+            note: Some(HeldEpoch { epoch }),
             packets: Vec::new(self.station.alloc),
-            change: Change::Start(shards),
-        })
+            change: Change::Nothing,
+        }
     }
 
     // Its own work, at the first shard that has some, where a round is left.
@@ -172,12 +152,12 @@ impl ServerCore {
         ensures decided { IfOk result (λ turn. Decided self.now turn) }
     {
         if self.round >= LAST_SLOT {
-            return Ok(Turn::idle(self.station.alloc));
+            return Ok(idle(self.station.alloc));
         }
         let Some(number) = self.first(Test::MayPropose) else {
-            return Ok(Turn::idle(self.station.alloc));
+            return Ok(idle(self.station.alloc));
         };
-        self.shards[usize::from(number)].propose(&self.station, number, self.round, self.epoch)
+        self.shards[usize::from(number)].propose(&self.station, number, self.round, self.held.epoch)
     }
 
     // Each proposal's packets are sent again, in the order of shards, and no shard holds back any more.
@@ -203,14 +183,13 @@ impl ServerCore {
             → Gives g (site_of self.old) l turn (server_gets g (site_of self.old) k l from packet.now)) }
         ensures decided { IfOk result (λ turn. Decided self.new turn) }
         ensures same { (g : Setting) (k : ServerKept) (l : ServerLive) → Stands self.old g k l → Stands self.new g k l }
-        ensures serves { (g : Setting) → Serves self.old g → Serves self.new g }
-        ensures site { site_of self.new ≡ site_of self.old }
+        ensures station { self.new.station ≡ self.old.station }
     {
         let Some(number) = self.number_of(packet) else {
-            return Ok(Turn::idle(self.station.alloc));
+            return Ok(idle(self.station.alloc));
         };
         if usize::from(number) >= self.shards.len() {
-            return Ok(Turn::idle(self.station.alloc));
+            return Ok(idle(self.station.alloc));
         }
         let shard = &mut self.shards[usize::from(number)];
         shard.gets(&self.station, number, self.round, from, packet)

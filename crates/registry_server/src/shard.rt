@@ -1,7 +1,6 @@
 // One shard of a server, and what a kept turn does to it.
 ghost use Rattle.std.specs.Prelude.{◌≡◌, ◌<◌, ◌≤◌, length, true, false};
-ghost use Rattle.registry_server.specs.Terms.{LAST_SLOT, Setting, ShardState, empty_shard, room};
-ghost use Rattle.batch_queue.specs.Queue.{room as places};
+ghost use Rattle.registry_server.specs.Terms.{LAST_SLOT, Setting, ShardState, empty_shard, room, places};
 ghost use Rattle.registry_server.specs.Stations.{setting};
 ghost use Rattle.registry_server.specs.ShardStates.{IsShard, FitsStep, IsUnknown, TellsAnswered, stepped, passes, says};
 
@@ -16,7 +15,7 @@ use turn_defs::LAST_SLOT;
 
 /// What a turn does to a shard.
 #[derive(Debug, Drop)]
-pub(crate) enum Step {
+pub enum Step {
     /// An insert goes to the queue, where there is a place for it and its token doesn't wait.
     Queue(Insert),
     /// A proposal begins.
@@ -44,7 +43,7 @@ pub(crate) enum Test {
 
 /// One shard. The values learned are never looked over: the registry has their meaning, and `next` is their number.
 #[derive(Debug, Drop)]
-pub(crate) struct Shard {
+pub struct Shard {
     pub(crate) next: u64,
     pub(crate) registry: TimedRegistry,
     pub(crate) queue: BatchQueue,
@@ -67,6 +66,7 @@ impl Shard {
     }
 
     // In constant time.
+    #[tactic(auto, using(crate::proofs::Testing::passes_is, crate::proofs::Testing::low_is))]
     pub(crate) fn passes(&self, station: &Station, test: Test) -> bool
         ensures row { (g : Setting) (st : ShardState) → IsShard self.now st → result ≡ passes (setting station.now g) test st }
         ensures low { test ≡ Test.MayPropose → result ≡ true → self.now.next < LAST_SLOT }

@@ -18,6 +18,16 @@ pub(crate) fn empty_shards(alloc: Global, count: u8) -> Result<Vec<Shard>, Alloc
     Ok(shards)
 }
 
+// Each shard is without anything again. It takes no memory.
+pub(crate) fn clear_all(shards: &mut Vec<Shard>, alloc: Global)
+    ensures many { length shards.new.items ≡ length shards.old.items }
+    ensures empty { EachStands shards.new.items (λ s. empty_shard) }
+{
+    for number in 0..shards.len() {
+        shards[number] = Shard::new(alloc);
+    }
+}
+
 // No shard holds back any more.
 pub(crate) fn release_all(shards: &mut Vec<Shard>)
     ensures many { length shards.new.items ≡ length shards.old.items }

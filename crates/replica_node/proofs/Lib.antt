@@ -3,4 +3,3 @@ pub mod Noting
 pub mod Spelled
 pub mod Voters
 pub mod Standing
-pub mod Turning

@@ -1,11 +1,7 @@
 -- What an acceptor knows after a note more, and its turns as rows.
 use Rattle.std.proofs.Common.{◌≡◌, List, [], ◌∷◌, ◌++◌, Option, sym, ap, ◌∙◌, arith, option_map}
-use Rattle.replica_node.proofs.Words.{map-append, Batch, Place, Vote, promise, acceptance, cell_noted, ReplicaNote, Promised, Accepted, Acceptor, place_of, note_view, note_for, cell_with, BallotNote, Voted, Setting, Packet, Node, Turn, ReplicaKept, cell_at, note_at, land_replica, says, IsRow, Knows, noted, kept_of}
+use Rattle.replica_node.proofs.Words.{map-append, Batch, Place, Vote, promise, acceptance, cell_noted, ReplicaNote, Promised, Accepted, Acceptor, place_of, note_view, note_for, cell_with, BallotNote, Setting, Packet, Node, Turn, ReplicaKept, with_note, cell_at, note_at, says, IsRow, Knows, noted, kept_of}
 use Rattle.paxos_acceptor.specs.Cells as cells
-
--- the kept notes, with one more behind them
-abbrev pub with_note : ReplicaKept → ReplicaNote → ReplicaKept
-with_note k note = land_replica (Voted (note_view note)) k
 
 cell_after_note : (k : ReplicaKept) (note : ReplicaNote) (p : Place) → cell_with note p (cell_at k p) ≡ cell_at (with_note k note) p
 cell_after_note k (Promised shard slot b) p = sym (cell_noted p k.notes (place_of shard slot) (promise b))

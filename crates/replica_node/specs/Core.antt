@@ -1,15 +1,15 @@
--- A replica's core beside the rows of its turns: what it stands for, what an input carries, what a turn says and does.
+-- A replica's core beside the rows of its turns: what it stands for, and what a turn says and does.
 use Rattle.std.specs.Prelude.{◌≡◌, ◌<◌, Option, option_map}
-use Rattle.replica_node.specs.Terms.{Deliver, Input, Note, Out, Own, Place, ReplicaKept, ReplicaNote, Setting, Start, Tick, Voted, cell_at, kept_of, note_view, replica_start, replica_turn, room}
-use Rattle.paxos_acceptor.specs.declared.acceptor.Acceptor.{Acceptor}
+use Rattle.replica_node.specs.Terms.{Acceptor, Note, Out, Place, ReplicaKept, ReplicaNote, Setting, Voted, cell_at, note_view, room}
 use Rattle.paxos_acceptor.specs.Cells as cells
 use Rattle.turn_defs.specs.Nodes.{Addressed}
-use Rattle.replica_node.specs.declared.input.ReplicaInput.{ReplicaInput}
-use Rattle.replica_node.specs.declared.input.ReplicaInput.TheVariants as input
 use Rattle.replica_node.specs.declared.turn.Change.{Change}
 use Rattle.replica_node.specs.declared.turn.Change.TheVariants.{Stays, Starts}
-use Rattle.replica_node.specs.declared.turn.Turn.{Turn}
+use Rattle.site_node.specs.declared.deciding.Turn.{Turn as Decision}
 use Rattle.replica_node.specs.declared.replica_core.ReplicaCore.{ReplicaCore}
+
+abbrev pub Turn : Type 0
+Turn = Decision ReplicaNote Change
 
 -- the acceptor knows of each place what the kept notes say
 abbrev pub Knows : Acceptor → ReplicaKept → Type 0
@@ -18,27 +18,6 @@ Knows acceptor k = (p : Place) → cells.cell_at acceptor p ≡ cell_at k p
 -- the core stands for what the disk holds
 abbrev pub Stands : ReplicaCore → ReplicaKept → Type 0
 Stands core k = Knows core.acceptor k
-
--- what is asked, in the terms of the turn table
-abbrev pub asked : ReplicaInput → Input
-asked (input.Start notes) = Start
-asked input.Own = Own
-asked input.Tick = Tick
-asked (input.Packet from p) = Deliver from p
-
--- Start carries what the disk holds; at any other input the core stands for it.
-abbrev pub Carries : ReplicaCore → ReplicaKept → ReplicaInput → Type 0
-Carries core k (input.Start notes) = kept_of notes.items ≡ k
-Carries core k input.Own = Stands core k
-Carries core k input.Tick = Stands core k
-Carries core k (input.Packet from p) = Stands core k
-
--- the row of an input
-abbrev pub row_of : ReplicaKept → Input → Out (Unit {0})
-row_of k Start = replica_start k
-row_of k Own = replica_turn k Own
-row_of k Tick = replica_turn k Tick
-row_of k (Deliver from p) = replica_turn k (Deliver from p)
 
 -- a turn's note in the terms of the turn table
 abbrev pub noted : Option ReplicaNote → Option Note

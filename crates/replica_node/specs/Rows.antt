@@ -1,12 +1,10 @@
 -- Worked turns of a replica.
 use Rattle.std.specs.Prelude.{◌≡◌, ℕ, List, [], ◌∷◌, Some, None}
-use Rattle.replica_node.specs.Terms.{Ballot, BallotNote, Batch, Deliver, Out, Own, Place, ReplicaKept, Tick, Voted, idle, replica_start, replica_turn}
+use Rattle.replica_node.specs.Terms.{Ballot, BallotNote, Batch, Deliver, Out, Own, Packet, Place, ReplicaKept, Tick, Voted, replica_start, replica_turn, idle, one_batch}
 use Rattle.paxos_defs.specs.Notes.Note.{Promised, Accepted}
-use Rattle.turn_defs.specs.declared.packet.Packet.{Packet}
 use Rattle.turn_defs.specs.declared.packet.Packet.TheVariants as packet
 use Rattle.turn_defs.specs.declared.node.Node.TheVariants.{Server}
 use Rattle.turn_defs.specs.declared.node.To.TheVariants.{Only}
-use Rattle.turn_defs.specs.Rows.{one_batch}
 
 abbrev pub place : Place
 place = record { shard = 3; slot = 0 }

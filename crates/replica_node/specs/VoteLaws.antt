@@ -1,11 +1,9 @@
--- A note: that it has a spelling has one proof, and how long it is.
-use Rattle.std.proofs.Common.{rules, ◌≡◌, ◌≤◌, ℕ, ◌+◌, List, [], ◌∷◌, ◌++◌, length, arith}
+-- A note: that it has a spelling has one proof, which note is spelled so, and how long it is.
+use Rattle.std.proofs.Common.{rules, ◌≡◌, ◌≤◌, ℕ, ◌+◌, List, [], ◌∷◌, ◌++◌, length, sym, ap, ◌∙◌, arith}
 use Rattle.std.proofs.Props.{props}
-use Rattle.std.specs.Coded.{×_prop, Π_prop, →_prop, Unit-prop}
+use mathlib.Core.HLevel.{Σ_prop_path}
+use Rattle.replica_node.specs.Terms.{×_prop, Π_prop, →_prop, Unit-prop, Accepted, Ballot, Batch, Each, IsNote, Promised, ReplicaNote, note, place_of, note_apart, note_room}
 use Rattle.std.specs.Prelude.{All}
-use Rattle.replica_node.specs.Terms.{Ballot, Batch, Each, IsNote, ReplicaNote, note, place_of}
-use Rattle.packet_codec.proofs.NoteParts.{note_room}
-use Rattle.paxos_acceptor.specs.declared.notes.ReplicaNote.TheVariants.{Accepted, Promised}
 use Rattle.registry_state.specs.declared.Insert.{Insert}
 use Rattle.turn_defs.specs.Spellings.{ballot, batch, place, IsInsert}
 
@@ -21,6 +19,15 @@ note_once (Accepted shard slot b v) = hlevel (each_once, props)
 
 pub notes_once : (notes : List ReplicaNote) → IsProp (All IsNote notes)
 notes_once notes = Π_prop (λ k. Π_prop (λ d. →_prop (note_once _)))
+
+-- ---- which note is spelled so
+
+-- the bytes are this note's
+abbrev pub OneNote : List ℕ → Type 0
+OneNote bytes = (n : ReplicaNote) × (IsNote n × (bytes ≡ note n))
+
+pub one_note : (bytes : List ℕ) → IsProp (OneNote bytes)
+one_note bytes v w = Σ_prop_path {B = λ n. IsNote n × (bytes ≡ note n)} (λ n. ×_prop (note_once n) (hlevel props)) {u = v} {v = w} (note_apart v.0 w.0 [] [] v.1.0 w.1.0 (ap (λ (b : List ℕ). b ++ []) (sym v.1.1 ∙ w.1.1)))
 
 -- ---- its length
 

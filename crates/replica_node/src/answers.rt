@@ -1,8 +1,7 @@
 // A replica's answers as packets.
 ghost use Rattle.std.specs.Prelude.{◌≡◌};
-ghost use Rattle.replica_node.specs.Terms.{prepared_as, taken_as};
+ghost use Rattle.replica_node.specs.Terms.{prepared_as, taken_as, Batch as Value};
 ghost use Rattle.paxos_defs.specs.Turns as turns;
-ghost use Rattle.registry_state.specs.declared.Batch.{Batch as Value};
 ghost use Rattle.turn_defs.specs.Replica as rows;
 
 use ballot_core::Ballot;

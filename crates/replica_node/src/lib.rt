@@ -3,17 +3,18 @@
 #![tactic(auto)]
 
 mod answers;
-mod input;
 pub mod laws;
 mod node;
 mod replay;
 mod replica_core;
 mod turn;
+mod vote_records;
 mod voter;
 mod votes;
 
-pub use input::ReplicaInput;
-pub use node::ReplicaNode;
+pub use node::{ReplicaNode, into_disk, replica_node};
 pub use replica_core::ReplicaCore;
-pub use turn::Turn;
+pub use turn::{Change, Turn};
+pub use vote_records::VoteRecords;
+pub use voter::{Voter, VotesKept};
 pub use votes::{VoteJournal, Votes};

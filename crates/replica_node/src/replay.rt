@@ -1,7 +1,7 @@
 // What the notes of a journal make, where the journal keeps its notes.
 ghost use Rattle.std.specs.Prelude.{IfOk};
-ghost use Rattle.replica_node.specs.Core.{Knows};
 ghost use Rattle.replica_node.specs.Terms.{kept_of};
+ghost use Rattle.replica_node.specs.Core.{Knows};
 
 use paxos_acceptor::{Acceptor, ReplicaNote};
 use std::alloc::{AllocError, Global};

@@ -1,15 +1,12 @@
 // The replica's core: an acceptor, and packets in place of answers.
 ghost use Rattle.std.specs.Prelude.{◌≡◌, ◌<◌, ◌∷◌, [], IfOk, OnSome};
-ghost use Rattle.replica_node.specs.Terms.{ReplicaKept, Setting, accepts, cell_at, kept_of, land, land_replica, prepares, replica_at_rest, replica_gets, replica_start, replica_unfinished, replica_wants, room};
-ghost use Rattle.paxos_defs.specs.Turns.{on_accept, on_prepare};
-ghost use Rattle.registry_state.specs.Same.{same_batch};
-ghost use Rattle.replica_node.specs.Core.{Carries, GoesOn, HasRoomIn, IsRow, Stands, asked, noted, row_of};
+ghost use Rattle.replica_node.specs.Terms.{ReplicaKept, Setting, accepts, cell_at, kept_of, land, land_replica, on_accept, on_prepare, prepares, replica_gets, replica_start, room, same_batch};
+ghost use Rattle.replica_node.specs.Core.{GoesOn, HasRoomIn, IsRow, Stands, noted};
 ghost use Rattle.replica_node.specs.declared.turn.Change.TheVariants.{Stays};
 
 use crate::answers::{prepared, taken};
 use crate::replay::replay;
-use crate::turn::Change;
-use crate::{ReplicaInput, Turn};
+use crate::turn::{Change, Turn, idle};
 use ballot_core::Ballot;
 use paxos_acceptor::{Acceptor, ReplicaNote};
 use paxos_defs::Place;
@@ -37,24 +34,6 @@ impl ReplicaCore {
         }
     }
 
-    /// What a turn writes and sends. Nothing changes but the room for the note, also where memory runs out, which is
-    /// the only error.
-    ///
-    /// Constant expected time for a packet, and linear in the batch that is copied into the note or the packet; now and
-    /// then it makes room for as many places again. Linear in the notes and their batches for `Start`.
-    pub fn decide(&mut self, input: &ReplicaInput) -> Result<Turn, AllocError>
-        ensures same { (k : ReplicaKept) → Stands self.old k → Stands self.new k }
-        ensures turn { IfOk result (λ turn. (g : Setting) (k : ReplicaKept) → Carries self.old k input.now → IsRow g (row_of k (asked input.now)) turn) }
-        ensures next { IfOk result (λ turn. (k : ReplicaKept) → Carries self.old k input.now → GoesOn self.new turn.change k) }
-        ensures room { IfOk result (λ turn. OnSome turn.note (HasRoomIn self.new turn.change)) }
-    {
-        match input {
-            ReplicaInput::Start { notes } => self.start(notes),
-            ReplicaInput::Packet { from, packet } => self.gets(*from, packet),
-            ReplicaInput::Own | ReplicaInput::Tick => Ok(Turn::idle(self.alloc, Change::Stays)),
-        }
-    }
-
     /// Makes the turn's change, once its note is written, in constant expected time. It takes no memory.
     pub fn keep(&mut self, turn: Turn)
         requires { OnSome turn.note (HasRoomIn self.old turn.change) }
@@ -69,27 +48,6 @@ impl ReplicaCore {
         if let Some(note) = note {
             self.acceptor.keep(note);
         }
-    }
-
-    /// Whether it has something to do by itself: never.
-    pub fn wants(&self) -> bool
-        ensures { (k : ReplicaKept) → result ≡ replica_wants k }
-    {
-        false
-    }
-
-    /// Whether it waits for somebody: never.
-    pub fn unfinished(&self) -> bool
-        ensures { (k : ReplicaKept) → result ≡ replica_unfinished k }
-    {
-        false
-    }
-
-    /// Whether all is done: always.
-    pub fn at_rest(&self) -> bool
-        ensures { (k : ReplicaKept) → result ≡ replica_at_rest k }
-    {
-        true
     }
 
     // What it knows, or what its journal says where it starts.
@@ -110,7 +68,7 @@ impl ReplicaCore {
         ensures room { IfOk result (λ turn. OnSome turn.note (HasRoomIn self.now turn.change)) }
     {
         let acceptor = replay(self.alloc, notes)?;
-        Ok(Turn::idle(self.alloc, Change::Starts(acceptor)))
+        Ok(idle(self.alloc, Change::Starts(acceptor)))
     }
 
     // Prepare and Accept have rows; nothing else is answered.
@@ -127,7 +85,7 @@ impl ReplicaCore {
                 ballot,
                 batch,
             } => self.accept(from, *place, *ballot, batch),
-            _ => Ok(Turn::idle(self.alloc, Change::Stays)),
+            _ => Ok(idle(self.alloc, Change::Stays)),
         }
     }
 

@@ -1,14 +1,29 @@
 // A replica that is up or down, and what it keeps has spellings.
-use crate::turn::Change;
-use crate::{ReplicaCore, Turn, Votes};
-use std::alloc::{AllocError, Global};
+ghost use Rattle.std.specs.Prelude.{[], ◌≡◌, false, Some, None, true, zero, ⊤};
+ghost use Rattle.replica_node.specs.Terms.{ReplicaKept, IsNote, Setting, Voted, kept_of, note_view, replica_rows, replica_at_rest, replica_unfinished, replica_wants};
+
+use crate::turn::{Change, Turn, idle};
+use crate::{ReplicaCore, Votes};
+use paxos_acceptor::ReplicaNote;
+use site_node::{Core, NodeFault};
+use std::alloc::Global;
 use std::marker::Model;
 use turn_defs::Input;
 
-// The core, while the replica is up; while it is down, the notes that its start goes on from. What it kept has
-// spellings, so what it sends has them.
+/// What a replica keeps: the notes of its journal. There are no values of it.
 #[derive(Drop)]
-pub(crate) struct Voter {
+pub struct VotesKept;
+
+impl Model for VotesKept {
+    ghost Value = { ReplicaKept };
+
+    ghost view = { λ v. record { notes = [] } };
+}
+
+/// The core, while the replica is up; while it is down, the notes that its start goes on from. What it kept has
+/// spellings, so what it sends has them.
+#[derive(Drop)]
+pub struct Voter {
     core: ReplicaCore,
     votes: Votes,
     up: bool,
@@ -30,19 +45,6 @@ impl Model for Voter {
 }
 
 impl Voter {
-    ghost use Rattle.std.specs.Prelude.{◌≡◌, [], Option, All, IfOk, OnSome, true, false};
-    ghost use Rattle.turn_defs.specs.Packets.{IsPacket};
-    ghost use Rattle.turn_defs.specs.declared.packet.Packet.{Packet};
-    ghost use Rattle.turn_defs.specs.declared.node.Node.{Node};
-    ghost use Rattle.site_node.specs.Bytes.{IsInput};
-    ghost use Rattle.site_node.specs.States.{Fits, row_of};
-    ghost use Rattle.turn_defs.specs.Setting.{Setting};
-    ghost use Rattle.turn_defs.specs.Turns.{land};
-    ghost use Rattle.turn_defs.specs.Replica.{ReplicaKept, land_replica};
-    ghost use Rattle.replica_node.specs.Core.{GoesOn, HasRoomIn, IsRow, Stands, noted};
-    ghost use Rattle.replica_node.specs.Node.{Knows, IsSpelledTurn};
-    ghost use Rattle.site_node.specs.Replicas.{replica_rows};
-
     // A replica that is down, over these notes.
     pub(crate) fn new(alloc: Global, votes: Votes) -> Voter
         ensures notes { result.notes ≡ votes.notes.items }
@@ -55,33 +57,83 @@ impl Voter {
             alloc,
         }
     }
+}
 
-    // What the turn writes and sends, as the core decides.
-    pub(crate) fn decide(&mut self, input: &Input) -> Result<Turn, AllocError>
-        requires { IsInput input.now }
-        ensures same { (k : ReplicaKept) (live : Option (Unit {0})) → Knows self.old k live → Knows self.new k live }
-        ensures turn { IfOk result (λ turn. (g : Setting) (k : ReplicaKept) (live : Option (Unit {0})) → Knows self.old k live → Fits live input.now → IsRow g (row_of replica_rows g k live input.now) turn) }
-        ensures next { IfOk result (λ turn. (k : ReplicaKept) (live : Option (Unit {0})) → Knows self.old k live → Fits live input.now → GoesOn self.new.core turn.change k) }
-        ensures packets { IfOk result (λ turn. All (λ (p : Node × Packet). IsPacket p.1) turn.packets.items) }
-        ensures spelled { IfOk result (λ turn. IsSpelledTurn self.new.core turn.change turn.note) }
-        ensures room { IfOk result (λ turn. OnSome turn.note (HasRoomIn self.new.core turn.change)) }
-    {
-        match input {
-            Input::Start => self.core.start(self.votes.notes()),
-            Input::Own | Input::Tick => Ok(Turn::idle(self.alloc, Change::Stays)),
-            Input::Deliver { from, packet } => self.core.gets(*from, packet),
+impl Core<VotesKept> for Voter {
+    ghost use Rattle.replica_node.specs.Node.{Knows, CanKeep, Makes};
+
+    type Note = ReplicaNote;
+
+    type Change = Change;
+
+    type Held = Votes;
+
+    ghost tells = { true };
+
+    ghost Live = { Unit {0} };
+
+    ghost rows = { replica_rows };
+
+    ghost noted = { λ n. Voted (note_view n) };
+
+    ghost spelled = { IsNote };
+
+    ghost takes = { λ k n. true };
+
+    ghost told = { λ held k. kept_of held.notes.items ≡ k };
+
+    // A replica serves any notes.
+    ghost serves = { λ v g k. ⊤ };
+
+    ghost knows = { λ v g. Knows v };
+
+    ghost can_keep = { λ v. CanKeep v.core };
+
+    ghost goes_on = { λ v note change g k l. Makes v.core note change k };
+
+    ghost spent = { λ k. None };
+
+    ghost wants_as = { λ g k l. replica_wants k };
+
+    ghost unfinished_as = { λ g k l. replica_unfinished k };
+
+    ghost at_rest_as = { λ g k l. replica_at_rest k };
+
+    ghost log_faults = { λ v. 0 };
+
+    ghost serves_known = { λ v g k live knows. tt };
+
+    fn wants(&self) -> bool {
+        false
+    }
+
+    fn unfinished(&self) -> bool {
+        false
+    }
+
+    fn at_rest(&self) -> bool {
+        true
+    }
+
+    fn decide(&mut self, input: Input) -> Result<Turn, NodeFault> {
+        match &input {
+            Input::Start => Ok(self.core.start(self.votes.notes())?),
+            Input::Own | Input::Tick => Ok(idle(self.alloc, Change::Stays)),
+            Input::Deliver { from, packet } => Ok(self.core.gets(*from, packet)?),
         }
     }
 
-    // Makes the turn's change, once its note is written. It is up then.
-    pub(crate) fn keep(&mut self, turn: Turn)
-        requires room { OnSome turn.note (HasRoomIn self.old.core turn.change) }
-        requires spelled { IsSpelledTurn self.old.core turn.change turn.note }
-        ensures up { self.new.up ≡ true }
-        ensures stands { (k : ReplicaKept) → GoesOn self.old.core turn.change k → Stands self.new.core (land land_replica (noted turn.note) k) }
+    fn keep(&mut self, turn: Turn)
+        requires { CanKeep self.old.core turn.note turn.change }
+        ensures knows { (g : Setting) (k : ReplicaKept) (l : Unit {0}) → Makes self.old.core turn.note turn.change k → Knows self.new k (Some l) }
+        ensures log_count { zero ≡ zero }
     {
         self.core.keep(turn);
         self.votes = Votes::none(self.alloc);
         self.up = true;
+    }
+
+    fn put_down(&mut self, held: Votes) {
+        *self = Voter::new(self.alloc, held);
     }
 }

@@ -1,7 +1,6 @@
 // The notes that are kept on a disk.
-ghost use Rattle.std.specs.Prelude.{◌≡◌, ◌≤◌, length, option_map, All, IfOk, IfSome, IfNone};
-ghost use Rattle.replica_node.specs.Terms.{IsNote, MAX_PAYLOAD};
-ghost use Rattle.packet_codec.specs.Notes.{note as note_spelled};
+ghost use Rattle.std.specs.Prelude.{◌≡◌, All, IfOk, IfSome, IfNone, [], ◌++◌, ◌∷◌, List};
+ghost use Rattle.replica_node.specs.Terms.{IsNote, note as note_spelled, Coded-set, coded_result, coded_list, coded_ℕ, ×_prop, ReplicaNote};
 ghost use Rattle.replica_node.specs.Votes.{IsNoVote};
 ghost use Rattle.replica_node.specs.VoteLaws.{notes_once};
 
@@ -26,8 +25,6 @@ pub struct Votes {
 pub type VoteJournal<D> = RecordJournal<D, Votes>;
 
 impl Votes {
-    ghost use Rattle.std.specs.Prelude.{◌≡◌, []};
-
     // No notes. It takes no memory.
     pub(crate) fn none(alloc: Global) -> Votes
         ensures { result.notes.items ≡ [] }
@@ -53,11 +50,7 @@ impl Votes {
 }
 
 impl Record for Votes {
-    ghost use Rattle.std.specs.Prelude.{◌++◌, [], ◌∷◌, List};
-    ghost use Rattle.std.specs.Coded.{Coded-set, coded_result, coded_list, coded_ℕ, ×_prop};
     ghost use Rattle.std.proofs.Common.{inl, refl};
-    ghost use Rattle.paxos_acceptor.specs.declared.notes.ReplicaNote.{ReplicaNote};
-    ghost use Rattle.packet_codec.specs.Notes.{IsNote};
     ghost use Rattle.replica_node.specs.Votes.{spells, is_damaged_at};
     ghost use Rattle.replica_node.specs.VoteLaws.{notes_once};
 
@@ -81,6 +74,7 @@ impl Record for Votes {
         Ok(Votes::none(alloc))
     }
 
+    #[tactic(auto, using(gate_journal::specs::Spelled::all_pushed, gate_journal::specs::Spelled::comes_as, gate_journal::specs::Spelled::comes_other))]
     fn take(&mut self, origin: Origin, payload: &[u8]) -> Result<bool, AllocError> {
         match read_vote(origin, payload)? {
             Some(note) => {
@@ -113,25 +107,8 @@ fn read_vote(origin: Origin, payload: &[u8]) -> Result<Option<ReplicaNote>, Allo
     }
 }
 
-/// The record of a note, if there is one, as the journal and the bus take it. Linear in the note.
-pub(crate) fn vote_record(
-    alloc: Global,
-    note: &Option<ReplicaNote>,
-) -> Result<Option<Payload>, AllocError>
-    requires { IfSome note.now IsNote }
-    ensures recorded { IfOk result (λ r. r ≡ option_map note_spelled note.now) }
-    ensures short { IfOk result (λ r. IfSome r (λ bytes. length bytes ≤ MAX_PAYLOAD)) }
-{
-    match note {
-        None => Ok(None),
-        Some(note) => {
-            let payload = note_record(alloc, note)?;
-            Ok(Some(payload))
-        }
-    }
-}
-
-fn note_record(alloc: Global, note: &ReplicaNote) -> Result<Payload, AllocError>
+// The record of a note, as the journal and the bus take it. Linear in the note.
+pub(crate) fn vote_record(alloc: Global, note: &ReplicaNote) -> Result<Payload, AllocError>
     requires { IsNote note.now }
     ensures { IfOk result (λ r. r ≡ note_spelled note.now) }
 {

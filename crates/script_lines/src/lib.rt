@@ -10,7 +10,7 @@ mod stop;
 pub mod texts;
 mod words;
 
-pub use playing::{Part, gather, play};
+pub use playing::{Part, Row, gather, play, rows_of};
 pub use report::Report;
 pub use script::{Line, Scene, Script};
 pub use short::{ShortLog, ShortSink};

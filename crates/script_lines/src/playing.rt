@@ -1,5 +1,5 @@
 // How the lines of a scene are played.
-use crate::{Report, Scene, Stop, Words, bytes_of, first_word, number_of};
+use crate::{Line, Report, Scene, Stop, Words, bytes_of, first_word, number_of};
 use std::alloc::{AllocError, Global};
 
 /// What the rows of a scene work on.
@@ -8,7 +8,38 @@ pub trait Part: Drop {
     fn step(&mut self, alloc: Global, text: Vec<u8>, words: &mut Words<'_>) -> Result<String, Stop>;
 }
 
-/// Plays the rows of a scene with a part. A line without an arrow gathers text for the next row.
+/// A row: its command, the answer that is wanted of it, and the text that the lines before it gathered.
+#[derive(Drop)]
+pub struct Row<'a> {
+    pub line: &'a Line,
+    pub command: &'a str,
+    pub wanted: &'a str,
+    pub text: Vec<u8>,
+}
+
+/// The rows of a scene. A line without an arrow gathers text for the next row.
+pub fn rows_of<'a>(
+    alloc: Global,
+    scene: &'a Scene,
+    report: &mut Report,
+) -> Result<Vec<Row<'a>>, AllocError> {
+    let mut rows = Vec::new(alloc);
+    let mut text = Vec::new(alloc);
+    for line in &scene.lines {
+        match line.text.as_str().split_once(" => ") {
+            Some((command, wanted)) => rows.push(Row {
+                line,
+                command,
+                wanted,
+                text: std::mem::replace(&mut text, Vec::new(alloc)),
+            })?,
+            None => report.done(line, gather(alloc, &mut text, line.text.as_str()))?,
+        }
+    }
+    Ok(rows)
+}
+
+/// Plays the rows of a scene with a part.
 pub fn play<P: Part>(
     alloc: Global,
     part: P,
@@ -16,16 +47,9 @@ pub fn play<P: Part>(
     report: &mut Report,
 ) -> Result<(), AllocError> {
     let mut part = part;
-    let mut text = Vec::new(alloc);
-    for line in &scene.lines {
-        match line.text.as_str().split_once(" => ") {
-            Some((command, wanted)) => {
-                let before = std::mem::replace(&mut text, Vec::new(alloc));
-                let answer = part.step(alloc, before, &mut Words::new(command));
-                report.answered(line, wanted, answer)?;
-            }
-            None => report.done(line, gather(alloc, &mut text, line.text.as_str()))?,
-        }
+    for row in rows_of(alloc, scene, report)? {
+        let answer = part.step(alloc, row.text, &mut Words::new(row.command));
+        report.answered(row.line, row.wanted, answer)?;
     }
     Ok(())
 }

@@ -133,8 +133,7 @@ module _ (g : Setting) (one : OneSpelling) (numbers : NumbersAreNodes g) (h : Li
       other ne = grind (arith, put_else)
 
       by : (b : Bool) → (number_in e == node_number m) ≡ b → GoesFrom g m (cell_of (put w n c more) m) rest (at m)
-      by true t = here (eqb-true (number_in e) (node_number m) t)
-      by false t = other (eqb-false (number_in e) (node_number m) t)
+      by h t = grind (arith, eqb-true, number_in, here, other)
 
   others_after : (before : List BusEntry) (e : BusEntry) (rest : List BusEntry) (w : World) → Followed before (e ∷ rest) w
       → (n : Node) → node_of g (number_in e) ≡ Some n → (m : ℕ) → node_of g m ≡ None → made_by m rest ≡ []

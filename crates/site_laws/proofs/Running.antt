@@ -1,6 +1,6 @@
 -- What a run leaves of a store's disks.
-use Rattle.std.proofs.Common.{◌≡◌, true, Option, Some, refl, sym, ◌∙◌, subst, arith}
-use Rattle.site_laws.proofs.Words.{some_same, Node, Setting, Disks, Topology, topology_of, DiskName, row_landed_ok, row_ok, KeptOf, StateOf, all_left, MayLeave, LeftIsWhole, Images, IsDisk, IsChoice, KeepsFor, KeepsTopology, HoldsRecords, AreKept, node_with, LeftIsHeld, RunStaysSound, StatesKeepVotes}
+use Rattle.std.proofs.Common.{◌≡◌, true, Option, Some, refl, sym, ◌∙◌, subst}
+use Rattle.site_laws.proofs.Words.{some_same, Node, Setting, Disks, Topology, topology_of, DiskName, KeptOf, StateOf, all_left, MayLeave, LeftIsWhole, Images, IsDisk, IsChoice, KeepsFor, KeepsTopology, HoldsRecords, AreKept, node_with, LeftIsHeld, RunStaysSound}
 use Rattle.outside.specs.declared.store.DiskName.TheVariants as name
 use Rattle.site_laws.specs.Stores.{Bytes}
 use Rattle.site_laws.proofs.Naming.{by_node, node_of_disk}
@@ -30,8 +30,3 @@ run_sound whole g image s h at es checked sound topology run kept b choice =
       whole g s h at es x.0 checked sound topology run x.1,
       λ t e. sym (some_same (topology_of g) t (sym topology ∙ e)),
     )
-
--- ---- a replica
-
-pub states_keep_votes : StatesKeepVotes
-states_keep_votes s c each held = grind (arith, row_landed_ok, row_ok)

@@ -1,10 +1,8 @@
 -- What the bus keeps where a dispatcher comes up.
 use Rattle.std.specs.Prelude.{◌≡◌, ℕ, ◌==◌, false, List, [], ◌∷◌, if◌then◌else◌, Some, None}
-use Rattle.site_laws.specs.Terms.{Begin, Disks, Dispatcher, DispatcherKept, DispatcherLive, End, Entry, IsAired, IsRun, Joiner, Kind, Node, Path, PlanView, Replica, Server, State, dispatcher_start, empty_disks, opening, worked}
+use Rattle.site_laws.specs.Terms.{Begin, BusEntry, Disks, Dispatcher, DispatcherKept, DispatcherLive, End, Entry, IsAired, IsRun, Joiner, Kind, Node, Path, PlanView, Replica, Server, State, dispatcher_start, empty_disks, is_dead, opening, worked}
 use Rattle.air_bus.specs.declared.entry.Input.TheVariants as bytes
-use Rattle.air_bus.specs.declared.entry.Entry.{Entry as BusEntry}
 use Rattle.air_bus.specs.declared.entry.Entry.TheVariants as bus
-use Rattle.air_bus.specs.Waiting.{is_dead}
 use Rattle.turn_defs.specs.declared.node.Input.TheVariants.{Start}
 use Rattle.site_laws.specs.Kinds.{StateOf, rows_of, down_over}
 use Rattle.site_laws.specs.Meaning.{AllMean}

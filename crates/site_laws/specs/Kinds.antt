@@ -1,17 +1,6 @@
 -- What the nodes of each kind keep and know, and their rows of the turn table, by the node.
-use Rattle.std.specs.Prelude.{ℕ, None}
-use Rattle.site_laws.specs.Terms.{Cell, Disks, Dispatcher, DispatcherKept, DispatcherLive, Joiner, JoinerKept, JoinerLive, Node, Replica, ReplicaKept, Rows, Server, ServerKept, ServerLive, Setting, State, World, dispatcher_start, dispatcher_turn, joiner_start, joiner_turn, land_dispatcher, land_joiner, land_server, replica_rows, server_start, server_turn}
-
--- ---- the rows of each kind, as those of a node over its disks
-
-abbrev pub dispatcher_rows : ℕ → Rows DispatcherKept DispatcherLive
-dispatcher_rows site = record { start = dispatcher_start; turn = λ g k l i. dispatcher_turn g site k l i; lands = land_dispatcher }
-
-abbrev pub server_rows : ℕ → Rows ServerKept ServerLive
-server_rows site = record { start = server_start; turn = λ g k l i. server_turn g site k l i; lands = land_server }
-
-abbrev pub joiner_rows : ℕ → Rows JoinerKept JoinerLive
-joiner_rows number = record { start = joiner_start; turn = λ g k l i. joiner_turn g number k l i; lands = land_joiner }
+use Rattle.std.specs.Prelude.{None}
+use Rattle.site_laws.specs.Terms.{Cell, Disks, Dispatcher, DispatcherKept, DispatcherLive, Joiner, JoinerKept, JoinerLive, Node, Replica, ReplicaKept, Rows, Server, ServerKept, ServerLive, Setting, State, World, dispatcher_rows, joiner_rows, replica_rows, server_rows}
 
 -- ---- by the node
 

@@ -1,7 +1,6 @@
 -- What the bus kept is a run.
 use Rattle.std.specs.Prelude.{◌≡◌, ℕ, Bool, true, List, [], ◌++◌, filter, Some, None}
-use Rattle.site_laws.specs.Terms.{Checked, Disks, Entry, IsAired, IsNode, IsRun, Kind, MayHold, Node, Path, PlanView, Setting, Store, WholeSound, disks, is_of, node_number, node_of, opening, topology_of, world_after}
-use Rattle.air_bus.specs.declared.entry.Entry.{Entry as BusEntry}
+use Rattle.site_laws.specs.Terms.{BusEntry, Checked, Disks, Entry, IsAired, IsNode, IsRun, Kind, MayHold, Node, Path, PlanView, Setting, Store, WholeSound, disks, is_of, node_number, node_of, opening, topology_of, world_after}
 use Rattle.photon_model.specs.Images.{image}
 use Rattle.site_laws.specs.Kinds.{StateOf, rows_of, cell_of, kept_of, down_over}
 use Rattle.site_laws.specs.Meaning.{AllMean, StandsFor}

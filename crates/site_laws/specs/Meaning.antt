@@ -1,11 +1,9 @@
 -- What entries of the bus mean: those of the model that say the same of inputs, notes and packets.
 use Rattle.std.specs.Prelude.{◌≡◌, ℕ, List, [], ◌∷◌, Option, Some, None, ⊤}
-use Rattle.site_laws.specs.Terms.{Begin, Cell, End, Entry, Node, Setting, State, Stop, node_of}
+use Rattle.site_laws.specs.Terms.{AreSpelled, Begin, BusEntry, Cell, End, Entry, IsNoted, Node, Reads, Setting, State, Stop, node_of}
 use Rattle.turn_defs.specs.declared.node.Input.{Input}
 use Rattle.air_bus.specs.declared.entry.Input.{Input as Bytes}
-use Rattle.air_bus.specs.declared.entry.Entry.{Entry as BusEntry}
 use Rattle.air_bus.specs.declared.entry.Entry.TheVariants as bus
-use Rattle.site_node.specs.Bytes.{IsNoted, AreSpelled, Reads}
 
 -- the number is this node's
 abbrev pub IsNumberOf : Setting → ℕ → Node → Type 0

@@ -1,7 +1,6 @@
 -- Rest and quiet points, by each node's own state.
 use Rattle.std.specs.Prelude.{◌≡◌, ℕ, ◌<◌, Bool, true, false, List, None, ⊤}
-use Rattle.air_bus.specs.declared.entry.Entry.{Entry as BusEntry}
-use Rattle.site_laws.specs.Terms.{Disks, Dispatcher, Entry, IsNode, Joiner, Node, Replica, Server, Setting, dispatcher_at_rest, dispatcher_wants, joiner_at_rest, opening, server_at_rest, server_wants, world_after}
+use Rattle.site_laws.specs.Terms.{BusEntry, Disks, Dispatcher, Entry, IsNode, Joiner, Node, Replica, Server, Setting, dispatcher_at_rest, dispatcher_wants, joiner_at_rest, opening, server_at_rest, server_wants, world_after}
 use Rattle.photon_model.specs.Rest.{UpWith, IsAtRest, is_out, IsQuiet}
 use Rattle.site_laws.specs.Kinds.{StateOf}
 use Rattle.site_laws.specs.Laws.{IsRunOf}

@@ -3,9 +3,8 @@
 use Rattle.std.specs.Prelude.{ℕ, zero, List, [], ◌∷◌, ◌++◌}
 use Rattle.std.specs.Int.{to_be_bytes, w32}
 use Rattle.outside.specs.declared.store.DiskName.TheVariants as name
-use Rattle.site_laws.specs.Terms.{ShardRow, framed, record_of, with_row, worked}
+use Rattle.site_laws.specs.Terms.{ShardRow, a_pair, framed, record_of, with_row, worked}
 use Rattle.topology_journal.specs.Topologies.{topology_of, record_of as topology_in, topology_record}
-use Rattle.output_log.specs.Rows.{a_pair}
 use Rattle.site_laws.specs.Stores.{Bytes, KeepSound}
 
 -- the bytes of a journal with one record

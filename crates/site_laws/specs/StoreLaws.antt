@@ -1,13 +1,8 @@
 -- What keeps a store sound.
 use Rattle.std.specs.Prelude.{◌≡◌, ◌≢◌, ◌⊎◌, ℕ, Bool, List, [], Option, Some, option_map}
-use Rattle.site_laws.specs.Terms.{Checked, DiskName, Disks, Each, Entry, IsFree, IsLonger, IsVoted, KeepsNotes, KeptOn, MayHold, Node, ReplicaKept, ReplicaState, Setting, ShardRow, StaysAs, Store, Topology, WholeSound, records, replica_rows, topology_of, with_row}
+use Rattle.site_laws.specs.Terms.{BusEntry, Checked, DiskName, Disks, Entry, IsFree, IsLonger, IsOpened, KeepsNotes, KeptTopology, Node, ReplicaNote, Setting, ShardRow, StaysAs, Store, Topology, WholeSound, notes_kept, records, topology_of, with_row}
 use Rattle.outside.specs.declared.store.DiskName.TheVariants as name
-use Rattle.gate_journal.specs.Opening.{IsOpened}
-use Rattle.topology_journal.specs.declared.topology.Topology.{Topology as KeptTopology}
 use Rattle.topology_journal.specs.Topologies as journal
-use Rattle.paxos_acceptor.specs.declared.notes.ReplicaNote.{ReplicaNote}
-use Rattle.air_bus.specs.declared.entry.Entry.{Entry as BusEntry}
-use Rattle.site_node.specs.Replicas.{kept_of as notes_kept}
 use Rattle.photon_model.specs.Sound.{SoundStore}
 use Rattle.site_laws.specs.Kinds.{StateOf}
 use Rattle.site_laws.specs.Laws.{IsRunOf, MayLeave}
@@ -32,10 +27,6 @@ ReadTopologyIsKept = (kept : Option KeptTopology) (bytes : List ℕ) → journal
 
 abbrev pub ReadNotesAreKept : Type 0
 ReadNotesAreKept = (notes : List ReplicaNote) (bytes : List ℕ) → KeepsNotes notes bytes → KeepsVotes (notes_kept notes) bytes
-
--- a replica whose notes have spellings keeps such notes
-abbrev pub StatesKeepVotes : Type 0
-StatesKeepVotes = (s : ReplicaState) (bytes : List ℕ) → Each IsVoted s.kept.notes → KeptOn s bytes → (k : ReplicaKept) × MayHold replica_rows s k × KeepsVotes k bytes
 
 -- ---- sound records
 

@@ -1,13 +1,11 @@
 -- What a stop may leave of the disks of a store, and when that is sound.
 use Rattle.std.specs.Prelude.{◌≡◌, ◌≢◌, ◌⊎◌, ℕ, ◌+◌, ◌*◌, ◌<◌, true, List, [], Option, None, Some, IfSome, option_map, ⊤}
-use Rattle.site_laws.specs.Terms.{DiskName, Disks, Dispatcher, Each, IsKeptIn, IsNode, IsVoted, Joiner, MayHold, Node, OnDisk, Replica, ReplicaKept, Server, Setting, Store, Topology, WholeSound, first_joiner, topology_of}
+use Rattle.site_laws.specs.Terms.{DiskName, Disks, Dispatcher, Each, IsKeptIn, IsNode, IsVoted, Joiner, KeepsEpoch, KeepsPairs, MayHold, Node, OnDisk, Replica, ReplicaKept, Server, Setting, Store, Topology, WholeSound, first_joiner, topology_of}
 use Rattle.outside.specs.declared.store.DiskName.TheVariants as name
 use Rattle.gate_journal.specs.Gate as gate
 use Rattle.topology_journal.specs.Topologies as journal
 use Rattle.offset_journal.specs.Offsets.{Keeps as KeepsOffset}
 use Rattle.retry_log.specs.Pending.{Keeps as KeepsPending}
-use Rattle.epoch_journal.specs.Epochs.{Keeps as KeepsEpoch}
-use Rattle.output_log.specs.Pairs.{Keeps as KeepsPairs}
 use Rattle.site_laws.specs.Kinds.{KeptOf, StateOf, rows_of, kept_of}
 
 -- ---- the disks of a setting

@@ -2,7 +2,7 @@
 // topology's record, a row more, a run of both sites, longer logs.
 ghost use Rattle.site_laws.specs.Terms.{DiskName, Setting};
 ghost use Rattle.site_laws.specs.Stores.{IsSoundStore};
-ghost use Rattle.site_laws.specs.StoreLaws.{HoldSameRecords, KeepOneTopology, LeavesNothing, LeftIsHeld, LongerStaysSound, OpenedIsWhole, ReadNotesAreKept, ReadTopologyIsKept, RowIsSound, RunStaysSound, SameIsSound, SameIsWhole, StatesKeepVotes, StaysSound, TopologyFits, TopologyIsFirst, WrittenIsSound};
+ghost use Rattle.site_laws.specs.StoreLaws.{HoldSameRecords, KeepOneTopology, LeavesNothing, LeftIsHeld, LongerStaysSound, OpenedIsWhole, ReadNotesAreKept, ReadTopologyIsKept, RowIsSound, RunStaysSound, SameIsSound, SameIsWhole, StaysSound, TopologyFits, TopologyIsFirst, WrittenIsSound};
 ghost use Rattle.site_laws.specs.StoreExample.{SoundBytes};
 
 use outside::Store;
@@ -27,13 +27,11 @@ pub fn once()
     ReplicaNote::told_apart();
 }
 
-/// What is read of the topology's disk, and of a replica's, is what the bytes keep; and so is what a replica's state keeps on
-/// its disk, if its notes have spellings.
-#[tactic(auto, using(crate::proofs::Keeping::read_topology, crate::proofs::Keeping::read_notes, crate::proofs::Running::states_keep_votes))]
+/// What is read of the topology's disk, and of a replica's, is what the bytes keep.
+#[tactic(auto, using(crate::proofs::Keeping::read_topology, crate::proofs::Keeping::read_notes))]
 pub fn read()
     ensures topology { ReadTopologyIsKept }
     ensures notes { ReadNotesAreKept }
-    ensures states { StatesKeepVotes }
 {}
 
 /// Whether records are sound is told by those of the setting's nodes alone.

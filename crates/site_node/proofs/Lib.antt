@@ -1,3 +1,4 @@
 pub mod Turns
 pub mod Replicas
 pub mod Stops
+mod Turning

@@ -1,6 +1,6 @@
 -- Where a replica's kept notes and its input have spellings, so have the row's note and packets, and what it keeps then.
-use Rattle.std.proofs.Common.{arith, Bool, List, [], ◌∷◌, ◌++◌, Option, Some, None, sym, subst}
-use Rattle.std.specs.Prelude.{All, IfSome, if◌then◌else◌, ⊤}
+use Rattle.std.proofs.Common.{arith, Bool, List, [], ◌∷◌, ◌++◌, Option, Some, None}
+use Rattle.std.specs.Prelude.{All, IfSome, if◌then◌else◌, map, ⊤}
 use Rattle.list_words.specs.Lists.{Each}
 use Rattle.ballot_core.specs.declared.Ballot.{Ballot}
 use Rattle.ballot_core.specs.Ballots.{is_below, is_same}
@@ -21,17 +21,13 @@ use Rattle.turn_defs.specs.Packets.{IsPacket}
 use Rattle.turn_defs.specs.Setting.{Setting}
 use Rattle.turn_defs.specs.Turns.{BallotNote, Note, Voted, Out, land, idle}
 use Rattle.turn_defs.specs.Replica.{ReplicaKept, cell_at, prepares, accepts, replica_gets, land_replica}
-use Rattle.site_node.specs.Replicas.{IsVoted}
-use Rattle.std.specs.Prelude.{map}
+use Rattle.site_node.specs.Replicas.{IsVoted, replica_rows}
 use Rattle.std.proofs.lemmas.List.Elements.{All-head, All-tail}
 use Rattle.paxos_acceptor.specs.Cells.{note_view}
 use Rattle.packet_codec.specs.Notes.{IsNote}
 use Rattle.turn_defs.specs.declared.node.Input.{Input}
-use Rattle.air_bus.specs.declared.entry.Input.{Input as Bytes}
-use Rattle.air_bus.specs.declared.entry.Input.TheVariants as bytes
-use Rattle.site_node.specs.Bytes.{Reads, IsInput}
+use Rattle.site_node.specs.Bytes.{IsInput}
 use Rattle.site_node.specs.States.{row_of}
-use Rattle.site_node.specs.Replicas.{replica_rows}
 
 view_ok : (n : ReplicaNote) → IsNote n → IsVoted (note_view n)
 view_ok h is = grind arith
@@ -83,7 +79,7 @@ module _ (to : Node) (at : Place) (b : Ballot) (c : Cell Batch) (place : IsPlace
     accepts_ok : IsSpelledOut (accepts to at b (on_accept same_batch c b v))
     accepts_ok = accept_by c.promised cell.promised
 
-pub idle_ok : IsSpelledOut (idle tt)
+idle_ok : IsSpelledOut (idle tt)
 idle_ok = record { note = tt; packets = tt }
 
 pub gets_ok : (k : ReplicaKept) (from : Node) (p : Packet) → Each IsVoted k.notes → IsPacket p → IsSpelledOut (replica_gets k from p)
@@ -97,10 +93,6 @@ each_push (y ∷ xs) x all is = (all.0, each_push xs x all.1 is)
 
 pub row_landed_ok : (k : ReplicaKept) (n : Option Note) → Each IsVoted k.notes → IsRowNote n → Each IsVoted (land land_replica n k).notes
 row_landed_ok k h all is = grind (arith, each_push)
-
-pub input_ok : (g : Setting) (b : Bytes) (i : Input) → Reads g b i → IsInput i
-input_ok g (bytes.Packet from p) i reads = subst IsInput (sym reads.5) reads.3
-input_ok g _ i reads = subst IsInput (sym reads) tt
 
 pub row_ok : (g : Setting) (k : ReplicaKept) (live : Option (Unit {0})) (i : Input) → Each IsVoted k.notes → IsInput i → IsSpelledOut (row_of replica_rows g k live i)
 row_ok g k h i all is = grind (arith, gets_ok)

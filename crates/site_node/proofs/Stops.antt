@@ -1,7 +1,7 @@
 -- What planned stops of its disks do to a node.
 use Rattle.std.proofs.Common.{◌≡◌, ℕ, zero, suc, ◌+◌, Bool, true, false, refl, ap, arith}
 use Rattle.outside.specs.Plans.{AtMost, MeetsPlan}
-use Rattle.outside.proofs.Plans.{and_then, fewer, same_plan}
+use Rattle.outside.proofs.Plans.{fewer, same_plan}
 use Rattle.site_node.specs.Faults.{MeetsStops, MeetsBoth}
 
 -- nothing was met, and then more calls
@@ -22,11 +22,6 @@ module _ {D : Type 0} (stops : D → ℕ → Bool) (made faults : D → ℕ) (mo
   -- a node of one disk
   pub meets : (met told : Bool) (old new : D) → met ≡ told → MeetsPlan stops made faults most met old new → MeetsStops told (AtMost (stops old) (made old)) (AtMost (stops new) (made new)) (faults old) (faults new)
   meets met told old new is so = rw (← is) (one met old new so)
-
-  -- its turn: room was made before
-  pub turn_meets : (met told : Bool) (old mid new : D) → met ≡ told → MeetsPlan stops made faults 0 false old mid → MeetsPlan stops made faults most met mid new
-      → MeetsStops told (AtMost (stops old) (made old)) (AtMost (stops new) (made new)) (faults old) (faults new)
-  turn_meets met told old mid new is first next = meets met told old new is (and_then stops made faults 0 most most met old mid new (omega arith) first next)
 
   -- the first of a node's two disks, or the second
   pub first_meets : (met told : Bool) (old new other same : D) → met ≡ told → same ≡ other → MeetsPlan stops made faults most met old new → MeetsBoth stops made faults told old other new same
@@ -49,10 +44,3 @@ module _ {D : Type 0} (stops : D → ℕ → Bool) (made faults : D → ℕ) whe
   one_by_one most met told a b a_new b_new is first next =
       let before : MeetsBoth stops made faults false a b a_new b = first_meets stops made faults most false false a a_new b b refl refl first in
       then_more told _ _ _ _ _ _ before (second_meets stops made faults most met told a_new a_new b b_new is refl next)
-
-  -- a turn: room was made before
-  pub both_meet : (met told : Bool) (a b a_mid b_mid a_new b_new : D) → met ≡ told
-      → MeetsPlan stops made faults 0 false a a_mid × MeetsPlan stops made faults 0 false b b_mid → MeetsBoth stops made faults met a_mid b_mid a_new b_new → MeetsBoth stops made faults told a b a_new b_new
-  both_meet met told a b a_mid b_mid a_new b_new is room next =
-      let before : MeetsBoth stops made faults false a b a_mid b_mid = one_by_one 0 false false a b a_mid b_mid refl room.0 room.1 in
-      rw (← is) (then_more met _ _ _ _ _ _ before next)

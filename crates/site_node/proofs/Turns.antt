@@ -1,11 +1,8 @@
 -- How a turn of a node of any kind ends, as an entry.
-use Rattle.std.proofs.Common.{arith, ◌≡◌, ◌⊎◌, ⊎_elim, ℕ, ◌≤◌, false, List, [], ◌∷◌, length, Option, Some, None, inl, inr, refl, sym, ap, subst}
-use Rattle.std.specs.Prelude.{All, is_some, option_map, Result, OnErr}
+use Rattle.std.proofs.Common.{arith, ◌≡◌, ℕ, ◌≤◌, List, [], ◌∷◌, length, Option, Some, None, inl, inr, refl, sym, ap, subst}
+use Rattle.std.specs.Prelude.{All, option_map, Result, OnErr}
 use Rattle.std.proofs.lemmas.List.Elements.{All-cons, All-nil}
-use Rattle.gate_journal.proofs.Growth.{continues_same, continues_through}
-use Rattle.gate_journal.specs.Growth.{Continues}
 use Rattle.list_words.specs.Lists.{Each}
-use Rattle.outside.specs.Disk.{Throughout}
 use Rattle.turn_defs.specs.declared.packet.Packet.{Packet}
 use Rattle.turn_defs.specs.declared.node.Node.{Node}
 use Rattle.turn_defs.specs.declared.node.Input.{Input}
@@ -18,10 +15,7 @@ use Rattle.air_bus.specs.declared.entry.Input.{Input as Bytes}
 use Rattle.air_bus.specs.declared.entry.Input.TheVariants as bytes
 use Rattle.air_bus.specs.declared.entry.Entry.TheVariants.{Begin, End}
 use Rattle.site_node.specs.Bytes.{AreSpelled, IsJunk, Reads, record_of}
-use Rattle.site_node.specs.States.{Fits, Leads, MayHold, MayTake, Rows, State, closes, row, written}
-
-pub none_of : {A : Type 0} (o : Option A) → is_some o ≡ false → o ≡ None
-none_of h off = grind arith
+use Rattle.site_node.specs.States.{Fits, Leads, MayTake, Rows, State, closes, row, written}
 
 pub on_err : {T E P : Type 0} (r : Result T E) → P → OnErr r P
 on_err h p = grind arith
@@ -60,16 +54,3 @@ module _ {K L : Type 0} (rows : Rows K L) (s t : State K L) (n : ℕ) (b : Bytes
   ends_done i note packets reads noted spelled addressed =
       subst (λ (x : State K L). Leads rows x (End n note ps sent) (closes s (written rows s i) (Some (row rows s i).live))) (sym led.2)
       (b, refl, le, inl (i, reads, record { noted = noted; packets = packets; spelled = spelled; sent = addressed; state = refl }))
-
--- A turn of a node of one disk: room is made first, and then the note is appended.
-module _ {D : Type 0} (image : D → List ℕ → Type 0) (since : D → D → List ℕ → Type 0) (old mid new : D) (first : Throughout image since old mid (image old)) where
-  -- at each moment the disk keeps what it kept, or that with the note
-  pub turn_moments : {K L : Type 0} (rows : Rows K L) (OnDisk : K → List ℕ → Type 0) (s t : State K L) (n : ℕ) (b : Bytes) (i : Input) → Leads rows s (Begin n b) t → Reads s.setting b i → ((c : List ℕ) → image old c → OnDisk s.kept c)
-      → Throughout image since mid new (λ c. OnDisk s.kept c ⊎ OnDisk (written rows s i) c) → (c : List ℕ) → since old new c → (k : K) × MayHold rows t k × OnDisk k c
-  turn_moments {K} {L} rows OnDisk s t n b i led reads durable next c left =
-      subst (λ (x : State K L). (k : K) × MayHold rows x k × OnDisk k c) (sym led.2)
-      (⊎_elim (λ kept. (s.kept, inl refl, kept)) (λ noted. (written rows s i, inr (b, i, refl, reads, refl), noted))
-      (⊎_elim (λ before. inl (durable c (first.each c before))) (λ now. now) (next.before old c left)))
-
-  pub turn_grown : ((c : List ℕ) → image new c → Continues (image mid) c) → (c : List ℕ) → image new c → Continues (image old) c
-  turn_grown next c here = continues_through (image old) (image mid) (λ d now. continues_same (image old) d (first.now d now)) c (next c here)

@@ -1,9 +1,9 @@
 -- From a store that was placed to the one before.
 use Rattle.std.proofs.Common.{ℕ, List, Option, None, Result, Err}
-use Rattle.site_run.proofs.Words.{Within, DiskName, Setting, Images, opened_same, RunFault, IsWelcome, IsCauseOf, LeavesSomething, Outcome, RunLog, RunsOver, IfErr-weaker}
+use Rattle.site_run.proofs.Words.{Within, DiskName, Setting, Images, opened_same, RunFault, IsWelcome, IsCauseOf, LeavesSomething, Outcome, RunLog, RunsOver, IfErr-weaker, on_ok_weaker}
 use Rattle.site_run.proofs.Entered.{rest_earlier, run_earlier, sound_placed, welcome_where}
 use Rattle.site_run.proofs.Outing.{goes_on_through, goes_on_within}
-use Rattle.site_run.proofs.Refusing.{cause_within, ok_weaker, passed_within}
+use Rattle.site_run.proofs.Refusing.{cause_within, passed_within}
 
 module _ (g : Setting) (before placed : Images) (same : (disk : DiskName) → Within (before disk) (placed disk) × Within (placed disk) (before disk)) where
   within : (disk : DiskName) (c : List ℕ) → placed disk c → before disk c
@@ -24,7 +24,7 @@ module _ (g : Setting) (before placed : Images) (same : (disk : DiskName) → Wi
         grown = λ disk. goes_on_through (before disk) (placed disk) (after disk) (goes_on_within (before disk) (placed disk) (within disk)) (x.ends.keeps.grown disk);
       };
       idle = λ none disk other c here. let o = x.ends.idle none disk other c here in (o.0, within disk o.0 o.1, o.2);
-      passed = ok_weaker r (passed_within g before placed within) x.ends.passed;
+      passed = on_ok_weaker r (passed_within g before placed within) x.ends.passed;
       caused = IfErr-weaker r (IsCauseOf g placed files stores) (IsCauseOf g before read faulted) (cause_within g before placed within files read faulted stores to_read to_faulted) x.ends.caused;
       welcome = λ sound. IfErr-weaker r _ _ (λ f. welcome_where f _ _ leaves_placed) (x.ends.welcome (sound_placed g before placed within sound));
     };

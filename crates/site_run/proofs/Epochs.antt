@@ -1,12 +1,8 @@
 -- How far a node's epoch rises: by one at each of its starts, and it starts no more often than it has stopped, and once more.
 use Rattle.std.proofs.Common.{◌≡◌, inl, ⊎_elim, ℕ, suc, ◌+◌, ◌≤◌, List, [], ◌∷◌, ◌++◌, true, Option, None, Some, refl, sym, ap, ◌∙◌, subst, arith, eqb-true}
-use Rattle.air_bus.specs.declared.entry.Input.TheVariants.{Start}
 use Rattle.photon_model.proofs.ServerRows as serving
 use Rattle.photon_model.proofs.Words.{Phase, Proposal, accepted, joiner_turn, server_turn}
-use Rattle.site_node.specs.States as states
-use Rattle.site_run.proofs.Words.{each_at, mem_right, BusEntry, Begin, End, Stop, Batch, Bytes, Disks, Dispatcher, Each, Server, Replica, Joiner, Input, JoinerKept, JoinerLive, Mem, Node, Note, Place, Rows, ServerKept, ServerLive, Setting, State, StateOf, ComesToLast, HasCome, IsAtLast, any_of, down_over, is_of, land, land_server, made_by, node_number, row_of, rows_of, stop_count}
-use Rattle.site_run.specs.AnyNodes.{StartsAt}
-use Rattle.turn_defs.specs.Joiner.{land_joiner}
+use Rattle.site_run.proofs.Words.{each_at, mem_right, BusEntry, Begin, End, Stop, Batch, Bytes, Disks, Dispatcher, Each, Server, Replica, Joiner, Input, JoinerKept, JoinerLive, Mem, Node, Note, Place, Rows, ServerKept, ServerLive, Setting, State, StateOf, ComesToLast, HasCome, IsAtLast, any_of, down_over, is_of, land, land_server, made_by, node_number, row_of, rows_of, stop_count, Start, StartsAt, land_joiner, Leads, RowEnds, RowPath, RowStops, written}
 
 -- ---- rows that raise no epoch
 
@@ -42,25 +38,6 @@ few_up : {L : Type 0} (live : Option L) → up live ≤ 1
 few_up None = omega arith
 few_up (Some l) = omega arith
 
--- at the end of a turn, of one that does nothing, and at a stop, where nothing has landed or the turn's note has
-done_so : (first stops kept next now : ℕ) → first ≤ kept → kept ≤ first + stops + now → now ≤ 1 → next + now ≡ suc kept → (first ≤ next) × (next ≤ first + stops + 1)
-done_so first stops kept next now least most few risen = (omega (arith, least, few, risen), omega (arith, most, risen))
-
-idle_so : (first stops kept now : ℕ) → kept ≤ first + stops + now → now ≤ 1 → kept ≤ first + stops + 1
-idle_so first stops kept now most few = omega (arith, most, few)
-
-stop_so : (first stops kept now : ℕ) → kept ≤ first + stops + now → now ≤ 1 → kept ≤ first + suc stops + 0
-stop_so first stops kept now most few = omega (arith, most, few)
-
-landed_so : (first stops kept next now : ℕ) → first ≤ kept → kept ≤ first + stops + now → now ≤ 1 → next + now ≡ suc kept → (first ≤ next) × (next ≤ first + suc stops + 0)
-landed_so first stops kept next now least most few risen = (omega (arith, least, few, risen), omega (arith, most, risen))
-
-row_up : (now next kept : ℕ) → next ≡ suc kept → now ≡ 0 → next + now ≡ suc kept
-row_up now next kept is none = omega (arith, is, none)
-
-row_same : (now next kept : ℕ) → next ≡ kept → now ≡ 1 → next + now ≡ suc kept
-row_same now next kept is one = omega (arith, is, one)
-
 module _ {K L : Type 0} (rows : Rows K L) (epoch : K → ℕ) (starts : (k : K) → epoch (land rows.lands (rows.start k).note k) ≡ suc (epoch k)) (turns : (g : Setting) (k : K) (l : L) (i : Input) → epoch (land rows.lands (rows.turn g k l i).note k) ≡ epoch k)
     (first : ℕ) where
   -- after so many stops
@@ -69,31 +46,33 @@ module _ {K L : Type 0} (rows : Rows K L) (epoch : K → ℕ) (starts : (k : K) 
     most : epoch kept ≤ first + stops + up live
 
   row_raises : (g : Setting) (k : K) (live : Option L) (i : Input) → epoch (land rows.lands (row_of rows g k live i).note k) + up live ≡ suc (epoch k)
-  row_raises g k None i = row_up 0 (epoch (land rows.lands (rows.start k).note k)) (epoch k) (starts k) refl
-  row_raises g k (Some l) i = row_same 1 (epoch (land rows.lands (rows.turn g k l i).note k)) (epoch k) (turns g k l i) refl
+  row_raises g k None i = omega (arith, starts k)
+  row_raises g k (Some l) i = omega (arith, turns g k l i)
 
   abbrev Raised : ℕ → State K L → Type 0
   Raised stops s = IsRaised stops s.live s.kept
 
-  after_end : (stops : ℕ) (s t : State K L) (b : Bytes) (noted : Option (List ℕ)) (ps : List (ℕ × List ℕ)) → states.Ends rows s b noted ps t → Raised stops s → Raised stops t
+  after_end : (stops : ℕ) (s t : State K L) (b : Bytes) (noted : Option (List ℕ)) (ps : List (ℕ × List ℕ)) → RowEnds rows s b noted ps t → Raised stops s → Raised stops t
   after_end stops s t b noted ps ends was =
+      let few = few_up s.live in
       ⊎_elim
       (λ done.
-      let x = done_so first stops (epoch s.kept) (epoch (states.written rows s done.0)) (up s.live) was.least was.most (few_up s.live) (row_raises s.setting s.kept s.live done.0) in
-      subst (Raised stops) (sym done.2.state) (record { least = x.0; most = x.1 }))
-      (λ idle. subst (Raised stops) (sym idle.state) (record { least = was.least; most = idle_so first stops (epoch s.kept) (up s.live) was.most (few_up s.live) }))
+      let risen = row_raises s.setting s.kept s.live done.0 in
+      subst (Raised stops) (sym done.2.state) (record { least = omega (arith, was.least, few, risen); most = omega (arith, was.most, risen) }))
+      (λ idle. subst (Raised stops) (sym idle.state) (record { least = was.least; most = omega (arith, was.most, few) }))
       ends
 
-  after_stop : (stops : ℕ) (s t : State K L) (b : Bytes) (landed : Option (List ℕ)) → states.Stops rows s b landed t → Raised stops s → Raised (suc stops) t
+  after_stop : (stops : ℕ) (s t : State K L) (b : Bytes) (landed : Option (List ℕ)) → RowStops rows s b landed t → Raised stops s → Raised (suc stops) t
   after_stop stops s t b landed stop was =
+      let few = few_up s.live in
       ⊎_elim
-      (λ none. subst (Raised (suc stops)) (sym none.1) (record { least = was.least; most = stop_so first stops (epoch s.kept) (up s.live) was.most (few_up s.live) }))
+      (λ none. subst (Raised (suc stops)) (sym none.1) (record { least = was.least; most = omega (arith, was.most, few) }))
       (λ some.
-      let x = landed_so first stops (epoch s.kept) (epoch (states.written rows s some.0)) (up s.live) was.least was.most (few_up s.live) (row_raises s.setting s.kept s.live some.0) in
-      subst (Raised (suc stops)) (sym some.3) (record { least = x.0; most = x.1 }))
+      let risen = row_raises s.setting s.kept s.live some.0 in
+      subst (Raised (suc stops)) (sym some.3) (record { least = omega (arith, was.least, few, risen); most = omega (arith, was.most, risen) }))
       stop
 
-  raised : (stops : ℕ) (es : List BusEntry) (s t : State K L) → states.Path rows s es t → Raised stops s → Raised (stops + stop_count es) t
+  raised : (stops : ℕ) (es : List BusEntry) (s t : State K L) → RowPath rows s es t → Raised stops s → Raised (stops + stop_count es) t
   raised stops [] s t path was = let same : stops ≡ stops + 0 = omega arith in subst (λ k. Raised k t) same (subst (Raised stops) path was)
   raised stops (Begin n b ∷ es) s t path was = raised stops es path.0 t path.2 (subst (Raised stops) (sym path.1.2) was)
   raised stops (End n noted ps kept ∷ es) s t path was = raised stops es path.0 t path.2 (after_end stops s path.0 path.1.0 noted ps path.1.3 was)
@@ -108,20 +87,20 @@ module _ {K L : Type 0} (rows : Rows K L) (epoch : K → ℕ) (starts : (k : K) 
   later : (b : Bytes) (e : BusEntry) (es : List BusEntry) → BeginsLast b es → BeginsLast b (e ∷ es)
   later b e es is = (e ∷ is.0, is.1, ap (λ (xs : List BusEntry). e ∷ xs) is.2)
 
-  closed_after : (e : BusEntry) (s t : State K L) (b : Bytes) → states.Leads rows s e t → t.opened ≡ Some b → (n : ℕ) × (e ≡ Begin n b)
+  closed_after : (e : BusEntry) (s t : State K L) (b : Bytes) → Leads rows s e t → t.opened ≡ Some b → (n : ℕ) × (e ≡ Begin n b)
   closed_after (Begin n c) s t b led is = (n, ap (Begin n) (let same : c ≡ b = cc (ap (λ (x : State K L). x.opened) led.2, is) in same))
   closed_after (End n noted ps kept) s t b led is =
       ⊎_elim (λ done. absurd (cc (sym (ap (λ (x : State K L). x.opened) done.2.state) ∙ is))) (λ idle. absurd (cc (sym (ap (λ (x : State K L). x.opened) idle.state) ∙ is))) led.3
   closed_after (Stop n landed) s t b led is =
       ⊎_elim (λ none. absurd (cc (sym (ap (λ (x : State K L). x.opened) none.1) ∙ is))) (λ some. absurd (cc (sym (ap (λ (x : State K L). x.opened) some.3) ∙ is))) led.2
 
-  begins_last : (b : Bytes) (e : BusEntry) (es : List BusEntry) (s t : State K L) → states.Path rows s (e ∷ es) t → t.opened ≡ Some b → BeginsLast b (e ∷ es)
+  begins_last : (b : Bytes) (e : BusEntry) (es : List BusEntry) (s t : State K L) → RowPath rows s (e ∷ es) t → t.opened ≡ Some b → BeginsLast b (e ∷ es)
   begins_last b e [] s t path busy =
-      let is = closed_after e s t b (subst (states.Leads rows s e) path.2 path.1) busy in
+      let is = closed_after e s t b (subst (Leads rows s e) path.2 path.1) busy in
       ([], is.0, ap (λ (x : BusEntry). x ∷ []) is.1)
   begins_last b e (f ∷ es) s t path busy = later b e (f ∷ es) (begins_last b f es path.0 t path.2 busy)
 
-  pub begins : (b : Bytes) (es : List BusEntry) (s t : State K L) → s.opened ≡ None → states.Path rows s es t → t.opened ≡ Some b → BeginsLast b es
+  pub begins : (b : Bytes) (es : List BusEntry) (s t : State K L) → s.opened ≡ None → RowPath rows s es t → t.opened ≡ Some b → BeginsLast b es
   begins b [] s t none path busy = absurd (cc (sym none ∙ ap (λ (x : State K L). x.opened) path ∙ busy))
   begins b (e ∷ es) s t none path busy = begins_last b e es s t path busy
 
@@ -139,28 +118,22 @@ module _ (n : ℕ) where
 
 -- ---- a node at its last epoch
 
-at_least : (k : ℕ) → k ≤ k
-at_least k = omega arith
-
-at_most : (k now : ℕ) → k ≤ k + 0 + now
-at_most k now = omega arith
-
 come_so : (first stops kept last now : ℕ) → kept ≤ first + (0 + stops) + now → now ≡ 0 → kept ≡ last → last ≤ first + stops
 come_so first stops kept last now most none is = omega (arith, most, none, is)
 
 module _ (g : Setting) (d : Disks) (h : List BusEntry) where
   has_come : {K L : Type 0} (rows : Rows K L) (epoch : K → ℕ) (starts : (k : K) → epoch (land rows.lands (rows.start k).note k) ≡ suc (epoch k)) (turns : (g : Setting) (k : K) (l : L) (i : Input) → epoch (land rows.lands (rows.turn g k l i).note k) ≡ epoch k)
-      → (n last : ℕ) (s t : State K L) → s.opened ≡ None → states.Path rows s (made_by n h) t → StartsAt t.opened t.live (epoch t.kept) last → HasCome n (made_by n h) (epoch s.kept) last
+      → (n last : ℕ) (s t : State K L) → s.opened ≡ None → RowPath rows s (made_by n h) t → StartsAt t.opened t.live (epoch t.kept) last → HasCome n (made_by n h) (epoch s.kept) last
   has_come {K} {L} rows epoch starts turns n last s t closed path at =
       let begun = begins rows epoch starts turns (epoch s.kept) Start (made_by n h) s t closed path at.starts in
-      let risen = raised rows epoch starts turns (epoch s.kept) 0 (made_by n h) s t path (record { least = at_least (epoch s.kept); most = at_most (epoch s.kept) (up s.live) }) in
+      let risen = raised rows epoch starts turns (epoch s.kept) 0 (made_by n h) s t path (record { least = omega arith; most = omega arith }) in
       let least = risen.least in
       let most = risen.most in
       let none : up t.live ≡ 0 = ap (λ (o : Option L). up o) at.down in
       let is = at.keeps in
       grind (arith, own_number, come_so, stop_count)
 
-  pub comes_to_last : (n : Node) (u : StateOf n) (epoch : ℕ) → states.Path (rows_of n) (down_over g d n) (made_by (node_number n) h) u → IsAtLast (any_of n u) epoch → ComesToLast d h n epoch
+  pub comes_to_last : (n : Node) (u : StateOf n) (epoch : ℕ) → RowPath (rows_of n) (down_over g d n) (made_by (node_number n) h) u → IsAtLast (any_of n u) epoch → ComesToLast d h n epoch
   comes_to_last (Dispatcher s) u epoch path at = absurd at
   comes_to_last (Server s) u epoch path at =
       ((d.servers s).epoch, refl, has_come (rows_of (Server s)) (λ (k : ServerKept). k.epoch) (λ k. refl) (λ o k l i. ap (λ (x : Option Note). (land land_server x k).epoch) (server_quiet o s k l i)) (node_number (Server s)) epoch (down_over g d (Server s)) u refl path at)

@@ -1,10 +1,47 @@
 -- What the journals of a run that has come to rest say is the report of what its disks keep.
-use Rattle.std.proofs.Common.{◌≡◌, ◌⊎◌, inl, inr, ℕ, zero, suc, List, [], refl, ap, ◌∙◌, subst, arith}
-use Rattle.site_run.proofs.Words.{All-nil, Mem, EventId, IsTable, Insert, bound_of, DiskName, ClickLine, ReportLine, M, BusEntry, IsPair, Setting, Checked, values_from, World, Disks, disks, world_after, opening, WholeSound, SoundStore, IsMissing, inserts_of, known_of, HasBounds, IsBoundOk, RestLeaves, RestIsDone, AtRestFromEmpty, ClicksAreExact, ReportIsExact, TellsTheMissing, RunsKeepStores, empty_disks, empty_store, TellsTheReport, Journals, Images, KeepsOf, IsSoundStore, SameRecords, KeepOneTopology, HoldSameRecords, LeavesNothing, same_is_whole, opened_whole, HasRested, RestLeft, lines_by, AreLinesBy, IsAcceptedBound, WasHeld, Joins, JoinsAfresh, RanAfresh, decided_by, JoinerStopped, NoneStops}
-use Rattle.outside.specs.declared.store.DiskName.TheVariants as name
+use Rattle.std.proofs.Common.{◌≡◌, inl, inr, ⊎_elim, ℕ, zero, suc, ◌+◌, ◌<◌, ◌≤◌, List, [], ◌∷◌, ◌++◌, refl, arith, ◌⊎◌, ap, ◌∙◌, subst}
+use Rattle.site_run.proofs.Words.{cases_lt, Mem, mem_left, mem_right, mem_split, Batch, Ballot, Place, Promised, Accepted, BallotNote, ReplicaKept, All-nil, EventId, IsTable, Insert, bound_of, DiskName, ClickLine, ReportLine, M, BusEntry, IsPair, Setting, Checked, values_from, World, Disks, disks, world_after, opening, WholeSound, SoundStore, IsMissing, inserts_of, known_of, HasBounds, IsBoundOk, RestLeaves, RestIsDone, AtRestFromEmpty, ClicksAreExact, ReportIsExact, TellsTheMissing, RunsKeepStores, empty_disks, empty_store, TellsTheReport, Journals, Images, KeepsOf, IsSoundStore, SameRecords, KeepOneTopology, HoldSameRecords, LeavesNothing, same_is_whole, opened_whole, HasRested, RestLeft, lines_by, AreLinesBy, IsAcceptedBound, WasHeld, Joins, JoinsAfresh, RanAfresh, decided_by, JoinerStopped, NoneStops, OutputDisk, ReplicaDisk, TopologyDisk}
 use Rattle.log_records.specs.Report as logs
 use Rattle.photon_model.specs.Report as kept
-use Rattle.site_run.proofs.Bounds.{bounds_from, to_bounds, from_bounds}
+
+-- ---- the bounds of accepted records
+
+abbrev bounds_in : List BallotNote → List ℕ
+bounds_in [] = []
+bounds_in (Accepted p b v ∷ ns) = v.bound ∷ bounds_in ns
+bounds_in (Promised p b ∷ ns) = bounds_in ns
+
+has_bound : (ns : List BallotNote) (at : Place) (b : Ballot) (v : Batch) → Mem (Accepted at b v) ns → Mem v.bound (bounds_in ns)
+has_bound [] at b v m = absurd m
+has_bound (Accepted p c w ∷ ns) at b v h = grind (arith, has_bound ns at b v)
+has_bound (Promised p c ∷ ns) at b v h = grind (arith, has_bound ns at b v)
+
+-- a record among these accepts a value with the bound
+abbrev pub Accepts : List BallotNote → ℕ → Type 0
+Accepts ns bound = (at : Place) × (b : Ballot) × (v : Batch) × Mem (Accepted at b v) ns × (v.bound ≡ bound)
+
+from_record : (ns : List BallotNote) (bound : ℕ) → Mem bound (bounds_in ns) → Accepts ns bound
+from_record [] bound m = absurd m
+from_record (Accepted p b v ∷ ns) bound (inl e) = (p, b, v, inl refl, e)
+from_record (Accepted p b v ∷ ns) bound (inr m) = let x = from_record ns bound m in (x.0, x.1, x.2, inr x.3, x.4)
+from_record (Promised p b ∷ ns) bound m = let x = from_record ns bound m in (x.0, x.1, x.2, inr x.3, x.4)
+
+-- those of so many replicas from this one on
+abbrev pub bounds_from : (ℕ → ReplicaKept) → ℕ → ℕ → List ℕ
+bounds_from f from zero = []
+bounds_from f from (suc n) = bounds_in (f from).notes ++ bounds_from f (suc from) n
+
+pub to_bounds : (f : ℕ → ReplicaKept) (from n r : ℕ) (at : Place) (b : Ballot) (v : Batch) → from ≤ r → r < from + n → Mem (Accepted at b v) (f r).notes → Mem v.bound (bounds_from f from n)
+to_bounds f from zero r at b v low high m = absurd (omega arith)
+to_bounds f from (suc n) r at b v low high m = grind (arith, mem_right, mem_left, has_bound, cases_lt, to_bounds f (suc from) n r at b v)
+
+pub from_bounds : (f : ℕ → ReplicaKept) (from n bound : ℕ) → Mem bound (bounds_from f from n) → (r : ℕ) × (r < from + n) × Accepts (f r).notes bound
+from_bounds f from zero bound m = absurd m
+from_bounds f from (suc n) bound m =
+    ⊎_elim (λ k. (from, omega arith, from_record (f from).notes bound k)) (λ k. let x = from_bounds f (suc from) n bound k in let lt = x.1 in (x.0, omega arith, x.2))
+    (mem_split bound (bounds_in (f from).notes) (bounds_from f (suc from) n) m)
+
+-- ---- from a sound store
 
 -- the laws that this stands on
 pub record Laws : Type 0 where
@@ -69,9 +106,9 @@ joins laws g before after h faulted js lines checked sound rest are =
 -- ---- from an empty store
 
 empty_keeps : (g : Setting) (disk : DiskName) → KeepsOf g empty_disks disk []
-empty_keeps g name.Topology = tt
-empty_keeps g (name.Replica r) = (tt, refl)
-empty_keeps g (name.Output s j) = (All-nil IsPair, refl)
+empty_keeps g TopologyDisk = tt
+empty_keeps g (ReplicaDisk r) = (tt, refl)
+empty_keeps g (OutputDisk s j) = (All-nil IsPair, refl)
 empty_keeps g _ = refl
 
 -- replicas without records have accepted no insert
@@ -103,6 +140,17 @@ module _ (laws : Laws) (g : Setting) (h : List BusEntry) (after : Images) (fault
     whole = λ calm. ap logs.text_of (same ∙ laws.report g rested.entries checked table rested.run.run rested.rest (none_missing calm));
   }
 
+  ran_afresh : ((JoinerStopped g h → ⊥) → faulted → ⊥) → RanAfresh g h lines
+  ran_afresh from = record {
+    at = rested.at;
+    entries = rested.entries;
+    run = rested.run;
+    rest = rested.rest;
+    are = same;
+    exact = laws.clicks g rested.entries checked table rested.run.run rested.rest;
+    whole = λ calm. same ∙ laws.report g rested.entries checked table rested.run.run rested.rest (none_missing (from calm));
+  }
+
 blank : (laws : Laws) (g : Setting) (before after : Images) (h : List BusEntry) (faulted : Type 0) (js : Journals) → LeavesNothing g before → (rest : RestLeft g before after h faulted js) → SameRecords g rest.store.disks empty_disks
 blank laws g before after h faulted js nothing rest = laws.one_records g (λ disk. []) rest.store.disks empty_disks
     (λ disk is. let x = rest.kept.records disk is in subst (λ (c : List ℕ). KeepsOf g rest.store.disks disk c) (nothing disk is x.0 x.1) x.2)
@@ -118,28 +166,12 @@ afresh laws g before after h faulted js lines checked table nothing rest are =
 stopped : (g : Setting) (d : Disks) (h : List BusEntry) (after : Images) (faulted : Type 0) (js : Journals) → NoneStops → HasRested g d h after faulted js → HasRested g d h after (JoinerStopped g h) js
 stopped g d h after faulted js none rested = search
 
-by_stops : (g : Setting) (before after : Images) (h : List BusEntry) (faulted : Type 0) (js : Journals) → NoneStops → RestLeft g before after h faulted js → RestLeft g before after h (JoinerStopped g h) js
-by_stops g before after h faulted js none rest = record { store = rest.store; kept = rest.kept; ran = λ d same. stopped g d h after faulted js none (rest.ran d same) }
-
 pub joins_by_stops : Laws → NoneStops → (g : Setting) (before after : Images) (h : List BusEntry) (faulted : Type 0) (js : Journals) (lines : List ReportLine)
     → Checked g → IsSoundStore g before → RestLeft g before after h faulted js → AreLinesBy g js lines → Joins g before after (JoinerStopped g h) lines
 joins_by_stops laws none g before after h faulted js lines checked sound rest are =
-    joins laws g before after h (JoinerStopped g h) js lines checked sound (by_stops g before after h faulted js none rest) are
-
-ran_afresh : (laws : Laws) (g : Setting) (h : List BusEntry) (after : Images) (js : Journals) (lines : List ReportLine) → Checked g → IsTable g.config.table → AreLinesBy g js lines → HasRested g empty_disks h after (JoinerStopped g h) js → RanAfresh g h lines
-ran_afresh laws g h after js lines checked table are rested =
-    let told = same laws g h after (JoinerStopped g h) js lines checked table are rested in
-    record {
-      at = rested.at;
-      entries = rested.entries;
-      run = rested.run;
-      rest = rested.rest;
-      are = told;
-      exact = laws.clicks g rested.entries checked table rested.run.run rested.rest;
-      whole = λ calm. told ∙ laws.report g rested.entries checked table rested.run.run rested.rest (none_missing laws g h after (JoinerStopped g h) js lines checked table are rested calm);
-    }
+    joins laws g before after h (JoinerStopped g h) js lines checked sound (record { store = rest.store; kept = rest.kept; ran = λ d same. stopped g d h after faulted js none (rest.ran d same) }) are
 
 pub ran : Laws → NoneStops → (g : Setting) (before after : Images) (h : List BusEntry) (faulted : Type 0) (js : Journals) (lines : List ReportLine)
     → Checked g → IsTable g.config.table → LeavesNothing g before → RestLeft g before after h faulted js → AreLinesBy g js lines → RanAfresh g h lines
 ran laws none g before after h faulted js lines checked table nothing rest are =
-    ran_afresh laws g h after js lines checked table are (stopped g empty_disks h after faulted js none (rest.ran empty_disks (blank laws g before after h faulted js nothing rest)))
+    ran_afresh laws g h after (JoinerStopped g h) js lines checked table are (stopped g empty_disks h after faulted js none (rest.ran empty_disks (blank laws g before after h faulted js nothing rest))) (λ calm. calm)

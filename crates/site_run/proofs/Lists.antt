@@ -1,6 +1,6 @@
--- Lists of nodes that grow at their end.
-use Rattle.std.proofs.Common.{◌≡◌, ℕ, suc, ◌+◌, ◌<◌, List, [], ◌∷◌, ◌++◌, length, map, refl, sym, ap, ◌∙◌, arith, append_assoc, length-append}
-use Rattle.site_run.proofs.Words.{append-nil, get_or_append_left, length-map, cases_lt, get_or-append_seam, all_from, AllAt}
+-- Lists of nodes that grow at their end, and lists side by side.
+use Rattle.std.proofs.Common.{◌≡◌, inl, inr, ℕ, suc, ◌+◌, ◌<◌, List, [], ◌∷◌, ◌++◌, length, Option, Some, None, refl, sym, ap, ◌∙◌, subst, arith, append_assoc, length-append}
+use Rattle.site_run.proofs.Words.{append-nil, get_or_append_left, cases_lt, get_or-append_seam, all_from, AllAt, EachWith, OneWith, Mem, Config, NodeFault, RunFault, told_of, or_else, first_fault}
 
 pub all_more : {N X : Type 0} (f : ℕ → N → List X) (i : ℕ) (ns : List N) (n : N) → all_from f i (ns ++ n ∷ []) ≡ all_from f i ns ++ f (i + length ns) n
 all_more f i [] n = grind (arith, append-nil)
@@ -18,13 +18,35 @@ pub parted : {N X : Type 0} (f : ℕ → N → List X) (old new total : List X) 
 parted f old new total i next n ns rest put is at all =
     ap (λ l. l ++ all_from f next rest) put ∙ ap (λ k. (old ++ f i n) ++ all_from f k rest) at ∙ append_assoc old (f i n) (all_from f (suc i) rest) ∙ ap (λ l. old ++ all_from f i l) (sym is) ∙ all
 
-pub mapped_length : {X Y : Type 0} (f : X → Y) (xs : List X) (ys : List Y) → map f xs ≡ ys → length xs ≡ length ys
-mapped_length f xs ys is = sym (length-map xs f) ∙ ap length is
+-- and was looked at for its fault: the first one is told
+or_through : (a b c : Option RunFault) → or_else (or_else a b) c ≡ or_else a (or_else b c)
+or_through None b c = refl
+or_through (Some f) b c = refl
 
-pub no_items : {X : Type 0} (xs : List X) → length xs ≡ 0 → xs ≡ []
-no_items [] is = refl
-no_items (x ∷ xs) is = absurd (omega (arith, is))
+pub faulted : {N : Type 0} (config : Config) (i next : ℕ) (first now total : Option RunFault) (fault : Option NodeFault) (n : N) (w : N × Option NodeFault) (ws rest : List (N × Option NodeFault)) → w ≡ (n, fault) → ws ≡ w ∷ rest → next ≡ suc i
+    → now ≡ or_else first (told_of config i fault) → or_else first (first_fault config i ws) ≡ total → or_else now (first_fault config next rest) ≡ total
+faulted {N} config i next first now total fault n w ws rest w_is cut step told before = grind (arith, or_through)
 
 pub some_of : {X : Type 0} (xs : List X) → 0 < length xs → X
 some_of [] some = absurd (omega (arith, some))
 some_of (x ∷ xs) some = x
+
+-- ---- lists side by side
+
+-- each element of the one has one of the other at its place
+pub with_one : {A B : Type 0} (R : A → B → Type 0) (xs : List A) (ys : List B) → EachWith R xs ys → (x : A) → Mem x xs → (y : B) × Mem y ys × R x y
+with_one R [] ys all z among = absurd among
+with_one R (x ∷ xs) [] all z among = absurd all
+with_one R (x ∷ xs) (y ∷ ys) all z (inl is) = (y, inl refl, subst (λ w. R w y) is all.0)
+with_one R (x ∷ xs) (y ∷ ys) all z (inr later) = let r = with_one R xs ys all.1 z later in (r.0, inr r.1, r.2)
+
+pub one_with : {A B : Type 0} (R : A → B → Type 0) (xs : List A) (ys : List B) → EachWith R xs ys → (y : B) → Mem y ys → (x : A) × Mem x xs × R x y
+one_with R xs [] all z among = absurd among
+one_with R [] (y ∷ ys) all z among = absurd all
+one_with R (x ∷ xs) (y ∷ ys) all z (inl is) = (x, inl refl, subst (λ w. R x w) is all.0)
+one_with R (x ∷ xs) (y ∷ ys) all z (inr later) = let r = one_with R xs ys all.1 z later in (r.0, inr r.1, r.2)
+
+pub one_of : {A B : Type 0} (S : A → B → Type 0) (xs : List A) (ys : List B) → OneWith S xs ys → (x : A) × (y : B) × Mem x xs × Mem y ys × S x y
+one_of S (x ∷ xs) (y ∷ ys) (inl is) = (x, y, inl refl, inl refl, is)
+one_of S (x ∷ xs) (y ∷ ys) (inr later) = let r = one_of S xs ys later in (r.0, r.1, inr r.2, inr r.3, r.4)
+one_of S _ _ one = absurd one

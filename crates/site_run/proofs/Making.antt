@@ -1,9 +1,106 @@
--- A node more is made of what there is.
-use Rattle.std.proofs.Common.{◌≡◌, ◌≢◌, ◌⊎◌, inl, inr, ℕ, suc, ◌+◌, ◌*◌, ◌<◌, ◌≤◌, Bool, IsTrue, List, [], ◌∷◌, ◌++◌, length, map, Some, None, refl, sym, ap, ◌∙◌, subst, append_assoc, length-append, arith, Option}
-use Rattle.std.proofs.lemmas.List.{map-append}
-use Rattle.site_run.proofs.Words.{Config, append-nil, length-map, IsPermutation, IsPermutation-map, IsPermutation-trans, IsPermutation-append_comm, IsPermutation-append_left, IsPermutation-append_right, IsPermutation-cons, IsPermutation-sym, IsPermutation-to_front, length_permutation, Each, each_more, Mem, other_names, Setting, AreKeptPlaces, IsLogOf, IsQueryLog, Disks, Lent, OpenView, Says, each_map, each_unmap, kept_by, lent_all, LentDisk, as_lent, all_from, AnyState, AllAt, IsUpAt, IsDownAt, AreFrom, IsStart, IsRunnable, IsTakenFrom, Makes, StockView, lent_by, cases_lt, clicks_from, count_of, disks_from, disks_in, logs_in, number_of, queries_from}
-use Rattle.site_run.proofs.Lists.{all_at_more, all_last, no_items}
-use Rattle.site_run.proofs.Taken.{Took, each_took, fewer_took, last_is, moved_took, opened_count, still_all}
+-- Nodes that are made of disks which are taken out of others by their names, and stand at the places of their numbers.
+use Rattle.std.proofs.Common.{◌≡◌, ◌≢◌, ℕ, ◌+◌, ◌*◌, ◌<◌, List, [], ◌∷◌, ◌++◌, length, map, get_or, Some, refl, sym, ◌∙◌, ap, subst, length-append, arith, remove, slice_index_or, ◌⊎◌, inl, inr, suc, ◌≤◌, Bool, IsTrue, None, append_assoc, Option}
+use Rattle.site_run.proofs.Words.{IsPermutation, append-nil, length-map, take-append-drop, drop_more, IsPermutation-trans, IsPermutation-refl, IsPermutation-middle, IsPermutation-cons, length_permutation, Each, Mem, DiskName, ReplicaNote, PairRec, Setting, kept_as, notes_kept, Disks, joiner_of, Lent, Kept, OffsetIs, PendingAre, EpochIs, NotesAre, PairsAre, OpenView, Says, lent_by, offset_in, pending_in, epoch_in, other_names, others_count, IsTakenFrom, some_same, Node, IsNode, NumbersAreNodes, node_count, node_number, node_of, KeptOf, kept_of, AnyState, any_of, down_with, AreDownOver, AllAt, IsDownAt, Config, SameRecords, map-append, nil_from_length, IsPermutation-map, IsPermutation-append_comm, IsPermutation-append_left, IsPermutation-append_right, IsPermutation-sym, IsPermutation-to_front, each_more, AreKeptPlaces, IsLogOf, IsQueryLog, each_map, each_unmap, kept_by, lent_all, LentDisk, as_lent, all_from, IsUpAt, AreFrom, IsStart, IsRunnable, Makes, StockView, cases_lt, clicks_from, count_of, disks_from, disks_in, logs_in, number_of, queries_from, EpochDisk, OffsetDisk, OutputDisk, ReplicaDisk, RetryDisk, ServerDisk}
+use Rattle.site_run.proofs.Places.{IsSeat}
+use Rattle.site_run.proofs.Lists.{all_at_more, all_last}
+
+-- ---- one is taken out
+
+pub taken_is : {X : Type 0} (xs : List X) (i : ℕ) (x : X) → i < length xs → x ≡ get_or xs i x → IsTakenFrom xs x (remove xs i)
+taken_is {X} xs i x lt is = grind (arith, take-append-drop, drop_more)
+
+pub last_is : {X : Type 0} (xs ys : List X) (x : X) → xs ≡ ys ++ x ∷ [] → IsTakenFrom xs x ys
+last_is xs ys x is = (ys, [], is, sym (append-nil ys))
+
+-- ---- these are taken out one after the other
+
+abbrev pub Took : {X : Type 0} → List X → List X → List X → Type 0
+Took old [] new = old ≡ new
+Took {X} old (u ∷ us) new = (mid : List X) × IsTakenFrom old u mid × Took mid us new
+
+each_taken : {X : Type 0} (P : X → Type 0) (front back : List X) (one : X) → Each P (front ++ one ∷ back) → P one × Each P (front ++ back)
+each_taken P [] back one all = all
+each_taken P (x ∷ xs) back one all = let more = each_taken P xs back one all.1 in (more.0, (all.0, more.1))
+
+pub each_took : {X : Type 0} (P : X → Type 0) (old us new : List X) → Took old us new → Each P old → Each P us × Each P new
+each_took P old [] new took all = (tt, subst (Each P) took all)
+each_took P old (u ∷ us) new (mid, (front, back, old_is, mid_is), more) all =
+    let first = each_taken P front back u (subst (Each P) old_is all) in
+    let later = each_took P mid us new more (subst (Each P) (sym mid_is) first.1) in
+    ((first.0, later.0), later.1)
+
+pub moved_took : {X : Type 0} (old us new : List X) → Took old us new → IsPermutation old (us ++ new)
+moved_took old [] new took = subst (IsPermutation old) took (IsPermutation-refl old)
+moved_took {X} old (u ∷ us) new (mid, (front, back, old_is, mid_is), more) =
+    let one : IsPermutation old (u ∷ mid) = subst (λ (l : List X). IsPermutation l (u ∷ mid)) (sym old_is) (subst (λ (l : List X). IsPermutation (front ++ u ∷ back) (u ∷ l)) (sym mid_is) (IsPermutation-middle front u back)) in
+    IsPermutation-trans old (u ∷ mid) (u ∷ (us ++ new)) one (IsPermutation-cons u mid (us ++ new) (moved_took mid us new more))
+
+pub fewer_took : {X : Type 0} (old us new : List X) → Took old us new → length old ≡ length us + length new
+fewer_took old us new took = omega (arith, length_permutation old (us ++ new) (moved_took old us new took), length-append us new)
+
+module _ {D : Type 0} where
+  abbrev names : List (OpenView D) → List DiskName
+  names xs = map (λ (o : OpenView D). o.name) xs
+
+  others_parts : (front back : List (OpenView D)) (one : OpenView D) (n : DiskName) → n ≢ one.name → Mem n (names (front ++ one ∷ back)) → Mem n (names (front ++ back))
+  others_parts [] back one n other h = grind arith
+  others_parts (x ∷ xs) back one n other h = grind (arith, others_parts xs back one n other)
+
+  pub still_there : (n m : DiskName) (old mid : List (OpenView D)) (one : OpenView D) → one.name ≡ m → IsTakenFrom old one mid → n ≢ m → Mem n (names old) → Mem n (names mid)
+  still_there n m old mid one named (front, back, old_is, mid_is) apart there =
+      subst (λ (l : List (OpenView D)). Mem n (names l)) (sym mid_is) (others_parts front back one n (λ e. apart (e ∙ named)) (subst (λ (l : List (OpenView D)). Mem n (names l)) old_is there))
+
+  pub still_all : (n : DiskName) (old us new : List (OpenView D)) → Took old us new → Each (λ u. n ≢ u.name) us → Mem n (names old) → Mem n (names new)
+  still_all n old [] new took apart there = subst (λ (l : List (OpenView D)). Mem n (names l)) took there
+  still_all n old (u ∷ us) new (mid, one, more) apart there = still_all n mid us new more apart.1 (still_there n u.name old mid u refl one apart.0 there)
+
+  -- its disk under its name
+  pub lent_is : (one : OpenView D) (n : DiskName) (x : D) → one.name ≡ n → one.disk ≡ x → record { name = n; disk = x } ≡ lent_by one
+  lent_is one n x named is = ap (λ m. record { name = m; disk = x }) (sym named) ∙ ap (λ y. record { name = one.name; disk = y }) (sym is)
+
+  pub pair_lent : (a b : OpenView D) (n m : DiskName) (x y : D) → a.name ≡ n → b.name ≡ m → a.disk ≡ x → b.disk ≡ y → record { name = n; disk = x } ∷ record { name = m; disk = y } ∷ [] ≡ lent_by a ∷ lent_by b ∷ []
+  pair_lent a b n m x y named too is are =
+      ap (λ (l : Lent D). l ∷ record { name = m; disk = y } ∷ []) (lent_is a n x named is) ∙ ap (λ (l : Lent D). lent_by a ∷ l ∷ []) (lent_is b m y too are)
+
+-- ---- what the records say of it
+
+pub dispatcher_said : (g : Setting) (d : Disks) (s x : ℕ) (xs : List ℕ) (n m : DiskName) (one other : Kept) → n ≡ OffsetDisk s → m ≡ RetryDisk s → one ≡ OffsetIs x → other ≡ PendingAre xs → Says g d n one → Says g d m other → d.dispatchers s ≡ kept_as x xs
+dispatcher_said g d s x xs n m one other named too is are says say = grind arith
+
+pub server_said : (g : Setting) (d : Disks) (s x : ℕ) (n : DiskName) (kept : Kept) → n ≡ ServerDisk s → kept ≡ EpochIs x → Says g d n kept → d.servers s ≡ record { epoch = x }
+server_said g d s x n kept named is says = ap (λ k. record { epoch = epoch_in (Some k) }) (sym (subst (λ (m : DiskName). Says g d m kept) named says) ∙ is)
+
+pub replica_said : (g : Setting) (d : Disks) (r : ℕ) (x : List ReplicaNote) (n : DiskName) (kept : Kept) → n ≡ ReplicaDisk r → kept ≡ NotesAre x → Says g d n kept → d.replicas r ≡ notes_kept x
+replica_said g d r x n kept named is says = grind arith
+
+pub joiner_said : (g : Setting) (d : Disks) (s j x : ℕ) (xs : List PairRec) (n m : DiskName) (one other : Kept) → n ≡ EpochDisk s j → m ≡ OutputDisk s j → one ≡ EpochIs x → other ≡ PairsAre xs → Says g d n one → Says g d m other
+    → d.joiners (joiner_of g s j) ≡ record { epoch = x; pairs = xs }
+joiner_said g d s j x xs n m one other named too is are says say = grind arith
+
+pub opened_count : {D : Type 0} (joiners replicas : ℕ) (x : List (OpenView D)) → map (λ (o : OpenView D). o.name) x ≡ other_names joiners replicas → length x ≡ 6 + replicas + 4 * joiners
+opened_count joiners replicas x named = sym (length-map x _) ∙ ap length named ∙ others_count joiners replicas
+
+-- ---- a node at the place of its number
+
+-- the node of this number is down over what its disks keep
+pub down_at : {N : Type 0} (places : N → AnyState → Type 0) (g : Setting) (d : Disks) (node : N) (i : ℕ) (n : Node) → node_number n ≡ i → IsNode g n → (k : KeptOf n) → kept_of d n ≡ k → places node (any_of n (down_with g k)) → IsDownAt places g d i node
+down_at places g d node i n at is k kept down = record { of = n; is = is; at = at; down = subst (λ (x : KeptOf n). places node (any_of n (down_with g x))) (sym kept) down }
+
+-- a joiner's number by its site and its place there
+pub joiner_number : (g : Setting) (c : Config) (n s p : ℕ) → g.config ≡ c → IsSeat c n s p → joiner_of g s p ≡ n
+joiner_number g c n s p of seat = ap (λ k. 4 + k.replicas + s * k.joiners + p) of ∙ seat.number
+
+-- ---- all of them
+
+same_node : (g : Setting) → NumbersAreNodes g → (m n : Node) → IsNode g m → IsNode g n → node_number m ≡ node_number n → m ≡ n
+same_node g law m n m_is n_is same = some_same m n (sym (law.of_number m m_is) ∙ ap (node_of g) same ∙ law.of_number n n_is)
+
+pub are_down_over : {N : Type 0} (places : N → AnyState → Type 0) (g : Setting) (d : Disks) → NumbersAreNodes g → (nodes : List N) → length nodes ≡ node_count g → AllAt (IsDownAt places g d) nodes → AreDownOver places g d nodes
+are_down_over places g d law nodes count all n is a = grind (arith, same_node)
+
+-- nodes that are down over some records are so over any that say the same of them
+pub down_too : {N : Type 0} (places : N → AnyState → Type 0) (g : Setting) (d e : Disks) (nodes : List N) → SameRecords g d e → AreDownOver places g d nodes → AreDownOver places g e nodes
+down_too places g d e nodes same down n is a = subst (λ (k : KeptOf n). places (slice_index_or nodes (node_number n) a) (any_of n (down_with g k))) (same n is) (down n is a)
 
 -- ---- lists in other orders
 
@@ -149,6 +246,20 @@ module _ {D L : Type 0} (bytes : L → List ℕ) (i : ℕ) (old new : StockView 
   pub one_used : (a : OpenView D) → 2 ≤ i → i < 4 + old.config.replicas → new.config ≡ old.config → IsTakenFrom old.rest a new.rest → number_of old.config a.name ≡ i → old.clicks ≡ new.clicks → old.queries ≡ new.queries → Uses (a ∷ []) [] []
   one_used a from below config taken own clicks queries = grind (arith, one_disk)
 
+  -- two disks and a log of a dispatcher
+  pub first_used : (a b : OpenView D) (log : L) (mid : List (OpenView D)) → i < 2 → new.config ≡ old.config → IsTakenFrom old.rest a mid → IsTakenFrom mid b new.rest → number_of old.config a.name ≡ i → number_of old.config b.name ≡ i → old.clicks ≡ new.clicks ++ log ∷ [] → old.queries ≡ new.queries
+      → Uses (a ∷ b ∷ []) (log ∷ []) []
+  first_used a b log mid below config first second own too clicks queries = record {
+    config = config;
+    rest = (mid, first, (new.rest, second, refl));
+    clicks = (new.clicks, last_is old.clicks new.clicks log clicks, refl);
+    queries = queries;
+    own = (own, (too, tt));
+    disk_count = omega (arith, below);
+    click_count = omega (arith, below);
+    query_count = omega (arith, below);
+  }
+
   -- two disks and a log of a joiner
   pub two_used : (a b : OpenView D) (log : L) (mid : List (OpenView D)) → 4 + old.config.replicas ≤ i → i < count_of old.config → new.config ≡ old.config → IsTakenFrom old.rest a mid → IsTakenFrom mid b new.rest → number_of old.config a.name ≡ i → number_of old.config b.name ≡ i
       → old.clicks ≡ new.clicks → old.queries ≡ new.queries ++ log ∷ [] → Uses (a ∷ b ∷ []) [] (log ∷ [])
@@ -194,7 +305,7 @@ module _ {N D L : Type 0} (number : N → ℕ) (waits : N → Bool) (places : N 
     pub held : IsPermutation (lent_all start.rest) (all_from (disks_of start.config) 0 nodes)
 
   pub ended : (nodes : List N) (now : StockView D L) → AreMade nodes now → length nodes ≡ count_of start.config → IsEnded nodes now
-  ended nodes now so all = grind (arith, no_items)
+  ended nodes now so all = grind (arith, nil_from_length)
 
   module _ (nodes : List N) (old new : StockView D L) (so : AreMade nodes old) where
     step_at : (made : Option N) (k : ℕ) → length nodes ≡ k → Makes number waits places disks_of logs_of tells bytes k old made new → Makes number waits places disks_of logs_of tells bytes (length nodes) old made new

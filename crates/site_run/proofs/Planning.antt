@@ -1,21 +1,12 @@
 -- A run by the stops that are planned for the disks of its nodes.
 use Rattle.std.proofs.Common.{◌≡◌, ◌≢◌, ℕ, ◌+◌, ◌<◌, ◌≤◌, Bool, false, List, [], ◌∷◌, length, map, Option, None, Some, slice_index_or, refl, sym, ◌∙◌, ap, subst, arith, IfErr, IfSome, Result, All}
 use Rattle.outside.specs.Plans.{AtMost}
-use Rattle.outside.specs.declared.store.DiskName.{DiskName}
-use Rattle.outside.specs.declared.store.DiskName.TheVariants as name
-use Rattle.site_store.specs.Plans.{AllAsPlanned, HasSoon, IsAsPlanned}
-use Rattle.site_store.proofs.Planned.{each_calm, same_left}
-use Rattle.run_fault.specs.declared.fault.StorePlace.{StorePlace}
 use Rattle.run_fault.specs.declared.fault.RunFault.TheVariants as fault
-use Rattle.site_node.specs.Faults.{OfBoth}
 use Rattle.site_node.specs.declared.kind.NodeFault.TheVariants as node_fault
-use Rattle.site_workers.specs.Works.{HasAtMost, KeepsPlan, open_stops}
 use Rattle.site_workers.specs.FourKinds as one
 use Rattle.site_workers.specs.declared.one_of.OneOf.TheVariants as node
-use Rattle.site_run.specs.Naming.{names_of, joiner_of}
 use Rattle.site_run.specs.Stops.{AllInAll, ArePlanned, AreSpared, RunsAsPlanned, StopsAsPlanned}
-use Rattle.site_run.proofs.Words.{list_any, Each, Mem, each_at, each_from, each_more, AreUp, HasMet, RunFault, first_fault, of_node, Lent, OneOf, BusEntry, Begin, End, Stop, NodeFault, Setting, Disks, Node, Joiner, IsNode, NumbersAreNodes, AnyState, node_number, node_count, down_over, made_by, all_from, site_of, is_stop, stop_count, AreHeld, AreDownOver, NoJoinerStopped, RunLog, Config}
-use Rattle.site_run.proofs.Going.{disks_by}
+use Rattle.site_run.proofs.Words.{list_any, Each, Mem, each_at, each_from, each_more, AreUp, HasMet, RunFault, first_fault, of_node, Lent, OneOf, BusEntry, Begin, End, Stop, NodeFault, Setting, Disks, Node, Joiner, IsNode, NumbersAreNodes, AnyState, node_number, node_count, down_over, made_by, all_from, site_of, is_stop, stop_count, AreHeld, AreDownOver, NoJoinerStopped, RunLog, Config, DisksIn, disks_by, DiskName, AllAsPlanned, HasSoon, IsAsPlanned, each_calm, same_left, StorePlace, OfBoth, HasAtMost, KeepsPlan, open_stops, names_of, place_at as joiner_of, EpochDisk, OutputDisk, TopologyDisk}
 use Rattle.site_run.proofs.Places.{at_place, from_place}
 use Rattle.site_run.proofs.Lists.{some_of}
 use Rattle.site_run.proofs.Running.{told_of_node}
@@ -29,7 +20,7 @@ none_counted (End node noted packets kept ∷ es) few = none_counted es few
 none_counted (Stop node landed ∷ es) few = absurd (omega (arith, few))
 
 -- where none is planned of a joiner's disk no joiner stops
-pub none_of_joiners : (left : DiskName → ℕ → Type 0) (g : Setting) (h : List BusEntry) → ((site joiner : ℕ) → left (name.Epoch site joiner) 0 × left (name.Output site joiner) 0)
+pub none_of_joiners : (left : DiskName → ℕ → Type 0) (g : Setting) (h : List BusEntry) → ((site joiner : ℕ) → left (EpochDisk site joiner) 0 × left (OutputDisk site joiner) 0)
     → StopsAsPlanned left g h → NoJoinerStopped g h
 none_of_joiners left g h none few = λ j is stopped.
     let none_here = none (site_of g.config j) (joiner_of g.config j) in
@@ -50,7 +41,7 @@ stops_earlier (Some l) old new g on few = λ n is k has. few n is k (all_earlier
 -- a store with the same plan, of which as many calls were made
 pub soon_earlier : {S : Type 0} (stops : S → DiskName → ℕ → Bool) (made : S → DiskName → ℕ) (old new : S) → ((disk : DiskName) (n : ℕ) → stops new disk n ≡ stops old disk n) → ((disk : DiskName) → made new disk ≡ made old disk)
     → (disk : DiskName) → HasSoon stops made new disk → HasSoon stops made old disk
-soon_earlier stops made old new same at name.Topology soon = λ none. soon (same_left 0 (stops old name.Topology) (stops new name.Topology) (made old name.Topology) (made new name.Topology) (same name.Topology) (at name.Topology) none)
+soon_earlier stops made old new same at TopologyDisk soon = λ none. soon (same_left 0 (stops old TopologyDisk) (stops new TopologyDisk) (made old TopologyDisk) (made new TopologyDisk) (same TopologyDisk) (at TopologyDisk) none)
 soon_earlier stops made old new same at disk soon = grind arith
 
 -- behind calls that meet no fault where none is planned
@@ -118,8 +109,8 @@ module _ {N D : Type 0} (stops : D → ℕ → Bool) (made disk_faults : D → �
     -- the disks of nodes that wait for no restart are up
     pub all_up : ((i : ℕ) (b : N × Option NodeFault) → i < length ws → waits (slice_index_or ws i b).0 ≡ false) → AreUp is_down (all_from (λ i (w : N × Option NodeFault). disks_of config i w.0) 0 ws)
     all_up up =
-        at_end (λ (l : Lent D). l.name ≢ name.Topology → is_down l.disk ≡ false)
-        (λ i b below. each_more (λ (l : Lent D). is_down l.disk ≡ false) (λ (l : Lent D). l.name ≢ name.Topology → is_down l.disk ≡ false) (disks_of config i (slice_index_or ws i b).0) (λ l is other. is) (laws.up config i (slice_index_or ws i b).0 (up i b below)))
+        at_end (λ (l : Lent D). l.name ≢ TopologyDisk → is_down l.disk ≡ false)
+        (λ i b below. each_more (λ (l : Lent D). is_down l.disk ≡ false) (λ (l : Lent D). l.name ≢ TopologyDisk → is_down l.disk ≡ false) (disks_of config i (slice_index_or ws i b).0) (λ l is other. is) (laws.up config i (slice_index_or ws i b).0 (up i b below)))
 
     module _ (count : length ws ≡ length vs) (up : All (λ v. waits v ≡ false) vs) where
       -- where no stop is planned all disks are up, and met no fault
@@ -163,16 +154,15 @@ module _ {N D : Type 0} (stops : D → ℕ → Bool) (made disk_faults : D → �
 
 -- ---- the stops of a node of any kind
 
-module _ {D A B C E : Type 0} (image : D → List ℕ → Type 0) (stops : D → ℕ → Bool) (made faults : D → ℕ) (is_down : D → Bool) (offset retry : A → D) (server : B → D) (replica : C → D) (epochs outputs : E → D)
-    (a : A → Bool) (b : B → Bool) (c : C → Bool) (e : E → Bool) where
+module _ {D A B C E : Type 0} (own : DisksIn D A B C E) (stops : D → ℕ → Bool) (made faults : D → ℕ) (is_down : D → Bool) (a : A → Bool) (b : B → Bool) (c : C → Bool) (e : E → Bool) where
   abbrev Left : D → ℕ → Type 0
   Left disk = AtMost (stops disk) (made disk)
 
   abbrev left_by : OneOf A B C E → ℕ → Type 0
-  left_by = one.has (λ n. OfBoth (Left (offset n)) (Left (retry n))) (λ n. Left (server n)) (λ n. Left (replica n)) (λ n. OfBoth (Left (epochs n)) (Left (outputs n)))
+  left_by = one.has (λ v. OfBoth (Left (own.offset v)) (Left (own.retry v))) (λ v. Left (own.server v)) (λ v. Left (own.replica v)) (λ v. OfBoth (Left (own.epochs v)) (Left (own.outputs v)))
 
   abbrev faults_by : OneOf A B C E → ℕ
-  faults_by = one.by (λ n. faults (offset n) + faults (retry n)) (λ n. faults (server n)) (λ n. faults (replica n)) (λ n. faults (epochs n) + faults (outputs n))
+  faults_by = one.by (λ v. faults (own.offset v) + faults (own.retry v)) (λ v. faults (own.server v)) (λ v. faults (own.replica v)) (λ v. faults (own.epochs v) + faults (own.outputs v))
 
   abbrev waits_by : OneOf A B C E → Bool
   waits_by = one.by a b c e
@@ -183,21 +173,21 @@ module _ {D A B C E : Type 0} (image : D → List ℕ → Type 0) (stops : D →
   one_left : (disk : D) (i j k : ℕ) → Left disk i → j ≡ 0 → k ≡ i + j → Left disk k
   one_left disk i j k has none is = let same : i ≡ k = omega (arith, none, is) in subst (Left disk) same has
 
-  module _ (ups : (n : A) → a n ≡ false → Up (offset n) × Up (retry n)) (up : (n : B) → b n ≡ false → Up (server n)) (up_too : (n : C) → c n ≡ false → Up (replica n)) (ups_too : (n : E) → e n ≡ false → Up (epochs n) × Up (outputs n)) where
-    left_of : (config : Config) (number k : ℕ) (v : OneOf A B C E) → AllInAll (λ (l : Lent D). Left l.disk) (disks_by image offset retry server replica epochs outputs config number v) k → left_by v k
+  module _ (ups : (v : A) → a v ≡ false → Up (own.offset v) × Up (own.retry v)) (up : (v : B) → b v ≡ false → Up (own.server v)) (up_too : (v : C) → c v ≡ false → Up (own.replica v)) (ups_too : (v : E) → e v ≡ false → Up (own.epochs v) × Up (own.outputs v)) where
+    left_of : (config : Config) (number k : ℕ) (v : OneOf A B C E) → AllInAll (λ (l : Lent D). Left l.disk) (disks_by own config number v) k → left_by v k
     left_of config number k (node.First v) h = (h.0, h.3.0, h.2, h.3.2, omega (arith, h.4, h.3.4, h.3.3))
-    left_of config number k (node.Second v) h = one_left (server v) h.0 h.1 k h.2 h.3 h.4
-    left_of config number k (node.Third v) h = one_left (replica v) h.0 h.1 k h.2 h.3 h.4
+    left_of config number k (node.Second v) h = one_left (own.server v) h.0 h.1 k h.2 h.3 h.4
+    left_of config number k (node.Third v) h = one_left (own.replica v) h.0 h.1 k h.2 h.3 h.4
     left_of config number k (node.Fourth v) h = (h.0, h.3.0, h.2, h.3.2, omega (arith, h.4, h.3.4, h.3.3))
 
-    none_of_it : (config : Config) (number : ℕ) (v : OneOf A B C E) → Each (λ (l : Lent D). faults l.disk ≡ 0) (disks_by image offset retry server replica epochs outputs config number v) → faults_by v ≡ 0
+    none_of_it : (config : Config) (number : ℕ) (v : OneOf A B C E) → Each (λ (l : Lent D). faults l.disk ≡ 0) (disks_by own config number v) → faults_by v ≡ 0
     none_of_it config number v h = grind arith
 
-    calm_of : (config : Config) (number : ℕ) (v : OneOf A B C E) → faults_by v ≡ 0 → Each (λ (l : Lent D). faults l.disk ≡ 0) (disks_by image offset retry server replica epochs outputs config number v)
+    calm_of : (config : Config) (number : ℕ) (v : OneOf A B C E) → faults_by v ≡ 0 → Each (λ (l : Lent D). faults l.disk ≡ 0) (disks_by own config number v)
     calm_of config number v none = grind arith
 
-    up_of : (config : Config) (number : ℕ) (v : OneOf A B C E) → waits_by v ≡ false → Each (λ (l : Lent D). is_down l.disk ≡ false) (disks_by image offset retry server replica epochs outputs config number v)
+    up_of : (config : Config) (number : ℕ) (v : OneOf A B C E) → waits_by v ≡ false → Each (λ (l : Lent D). is_down l.disk ≡ false) (disks_by own config number v)
     up_of config number v w = grind arith
 
-    pub are_planned : ArePlanned stops made faults is_down left_by faults_by waits_by (disks_by image offset retry server replica epochs outputs)
+    pub are_planned : ArePlanned stops made faults is_down left_by faults_by waits_by (disks_by own)
     are_planned = record { left = left_of; none = none_of_it; calm = calm_of; up = up_of }

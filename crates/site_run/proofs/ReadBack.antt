@@ -1,15 +1,13 @@
 -- What is read back of the disks of nodes at rest is the nodes' records.
 use Rattle.std.proofs.Common.{◌≡◌, ℕ, zero, suc, ◌+◌, ◌-◌, ◌*◌, ◌<◌, ◌≤◌, List, [], ◌∷◌, ◌++◌, length, map, drop, slice_index_or, Bool, false, cond, IsTrue, Option, None, Some, refl, sym, ap, ◌∙◌, subst, arith, lit<, lit≤, append_assoc, filter}
-use Rattle.site_run.proofs.Words.{All-nil, append-nil, filter-append, DiskName, ReplicaNote, note_view, PairRec, KeepsPairs, IsPair, Node, Replica, Joiner, Setting, first_joiner, IsNode, NumbersAreNodes, node_count, node_number, node_of, Config, BallotNote, ReplicaKept, notes_kept, journals_of, values_from, Disks, AreOf, Lent, KeepsNotes, StateOf, KeptOf, kept_of, all_from, EachWith, is_replica, is_output, each_with_append, Journals, notes_of, KeepsVotes, HoldsRecords, HoldSameRecords, ReadNotesAreKept, KeepsFor, KeepsAs, AllKeep, lent_replicas, lent_outputs, AreKeptIn}
-use Rattle.outside.specs.declared.store.DiskName.TheVariants as name
-use Rattle.site_laws.specs.Stores.{Bytes}
+use Rattle.site_run.proofs.Words.{All-nil, append-nil, map-id, filter-append, DiskName, ReplicaNote, note_view, PairRec, KeepsPairs, IsPair, Node, Replica, Joiner, Setting, first_joiner, IsNode, NumbersAreNodes, node_count, node_number, node_of, Config, BallotNote, ReplicaKept, notes_kept, journals_of, values_from, Disks, AreOf, Lent, KeepsNotes, StateOf, KeptOf, kept_of, all_from, EachWith, is_replica, is_output, each_with_append, Journals, notes_of, KeepsVotes, HoldsRecords, HoldSameRecords, ReadNotesAreKept, KeepsFor, KeepsAs, AllKeep, lent_replicas, lent_outputs, AreKeptIn, DiskBytes as Bytes, OutputDisk, ReplicaDisk, TopologyDisk}
 
 -- ---- bytes keep one list, of notes or of pairs
 
 -- the bytes of a replica's disk and those of an output, in a setting of one replica and one joiner a site
 abbrev two_disks : (votes pairs : List ℕ) → Bytes
-two_disks votes pairs (name.Replica r) = votes
-two_disks votes pairs (name.Output s j) = pairs
+two_disks votes pairs (ReplicaDisk r) = votes
+two_disks votes pairs (OutputDisk s j) = pairs
 two_disks votes pairs _ = []
 
 abbrev two_records : ReplicaKept → List PairRec → Disks
@@ -24,9 +22,9 @@ abbrev small : Setting → Setting
 small g = record g { config = record g.config { replicas = 1; joiners = 1 } }
 
 two_held : (g : Setting) (k : ReplicaKept) (ps : List PairRec) (votes pairs : List ℕ) → KeepsVotes k votes → KeepsPairs ps pairs → HoldsRecords g (two_disks votes pairs) (two_records k ps)
-two_held g k ps votes pairs a b name.Topology is = tt
-two_held g k ps votes pairs a b (name.Replica r) is = a
-two_held g k ps votes pairs a b (name.Output s j) is = b
+two_held g k ps votes pairs a b TopologyDisk is = tt
+two_held g k ps votes pairs a b (ReplicaDisk r) is = a
+two_held g k ps votes pairs a b (OutputDisk s j) is = b
 two_held g k ps votes pairs a b _ is = refl
 
 no_pairs : KeepsPairs [] []
@@ -211,14 +209,10 @@ module _ {D : Type 0} (image : D → List ℕ → Type 0) (config : Config) wher
   pairs_in n t (l ∷ m ∷ []) h = grind arith
   pairs_in n t (l ∷ m ∷ o ∷ ls) h = grind arith
 
-map_same : {A : Type 0} (xs : List A) → map (λ x. x) xs ≡ xs
-map_same [] = refl
-map_same (x ∷ xs) = ap (λ ys. x ∷ ys) (map_same xs)
-
 -- ---- what is read back
 
 module _ {N D : Type 0} (image : D → List ℕ → Type 0) (disks_of : ℕ → N → List (Lent D)) (g : Setting) (numbers : NumbersAreNodes g) (at : (n : Node) → StateOf n) (nodes : List N) (topology : Lent D) (tells : Bool) (journals : Journals)
-    (once : HoldSameRecords) (read : ReadNotesAreKept) (all : AllKeep image disks_of g at nodes) (named : topology.name ≡ name.Topology) (d : Disks) (same : (n : Node) → IsNode g n → kept_of d n ≡ (at n).kept) (on : IsTrue tells) where
+    (once : HoldSameRecords) (read : ReadNotesAreKept) (all : AllKeep image disks_of g at nodes) (named : topology.name ≡ TopologyDisk) (d : Disks) (same : (n : Node) → IsNode g n → kept_of d n ≡ (at n).kept) (on : IsTrue tells) where
   abbrev notes_at : ℕ → List (List BallotNote)
   notes_at = values_at image disks_of g numbers at d same KeepsNoteList is_replica its_notes (notes_in image g.config)
 
@@ -241,7 +235,7 @@ module _ {N D : Type 0} (image : D → List ℕ → Type 0) (disks_of : ℕ → 
 
   pairs_are : AreKeptIn tells image KeepsPairs (lent_outputs (topology ∷ all_from disks_of 0 nodes)) journals.pairs.items → journals.pairs.items ≡ values_from (λ j. (d.joiners j).pairs) (first_joiner g) (2 * g.config.joiners)
   pairs_are kept =
-      sym (map_same journals.pairs.items)
+      sym (map-id journals.pairs.items)
       ∙ all_read image disks_of g numbers at d same KeepsPairs is_output its_pairs (pairs_in image g.config) tells on KeepsPairs (λ ps. ps) (one_pairs once g) nodes topology journals.pairs.items all (ap is_output named) kept
       ∙ ap (λ vs. vs ++ spread pairs_at (first_joiner g) (2 * g.config.joiners))
       (spread_none pairs_at g.config.replicas 4 (λ j low high. let at_ : j ≡ 4 + (j - 4) = omega (arith, low) in ap pairs_at at_ ∙ pairs_of_node (Replica (j - 4)) (omega (arith, low, high))))
@@ -253,7 +247,7 @@ module _ {N D : Type 0} (image : D → List ℕ → Type 0) (disks_of : ℕ → 
 -- what is read back of the disks of all nodes at rest are the records that the nodes keep
 pub read_is : {N D : Type 0} (image : D → List ℕ → Type 0) (disks_of : ℕ → N → List (Lent D)) (g : Setting) (numbers : NumbersAreNodes g) (at : (n : Node) → StateOf n) (nodes : List N) (topology : Lent D) (tells : Bool) (journals : Journals)
     → HoldSameRecords → ReadNotesAreKept
-    → AllKeep image disks_of g at nodes → topology.name ≡ name.Topology
+    → AllKeep image disks_of g at nodes → topology.name ≡ TopologyDisk
     → (d : Disks) → ((n : Node) → IsNode g n → kept_of d n ≡ (at n).kept)
     → IsTrue tells
     → AreKeptIn tells image KeepsNotes (lent_replicas (topology ∷ all_from disks_of 0 nodes)) journals.notes.items

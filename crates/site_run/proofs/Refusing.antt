@@ -1,26 +1,16 @@
 -- Why a run over a store gives up, from what opening it tells and what a run of its nodes does.
 use Rattle.std.proofs.Common.{◌≡◌, ◌≢◌, inl, inr, ⊎_elim, ℕ, List, [], ◌∷◌, map, Bool, true, Option, Some, None, refl, sym, ◌∙◌, ap, subst, arith, IsTrue, IfSome, IsSomeAnd, Result, Ok, Err, OnOk, IfErr}
-use Rattle.site_run.proofs.Words.{eq-eqb, Each, Mem, each_at, BusEntry, DiskName, StoreFault, Topology, end_from, Dispatcher, Server, Replica, Joiner, Node, IsNode, node_number, Setting, IsLogOf, Disks, RunFault, Misplaced, IsCounted, IsWelcome, of_place, limit_at, limit_in, IsKeptIn, IsJournalOf, other_names, Images, IsDisk, joiner_of, place_at, site_of, IsAsked, EpochIs, KeepsEpoch, KeptDisk, KeptEpoch, KeptValues, Says, AreRecordsOf, all_named, at_name, was_journal, AreTold, ArePassed, IsCause, cause_more, failed_rose, passed_more, unread_rose, asked_of, HasPassed, IsCauseOf, IsLate, IsNearLast, IsOfRun, IsSpent, KeptAreJournals, NamesFailed, RunLog, TellsPlaces, disk_of}
-use Rattle.outside.specs.declared.store.DiskName.TheVariants as name
+use Rattle.site_run.proofs.Words.{eq-eqb, Each, Mem, each_at, BusEntry, DiskName, StoreFault, Topology, end_from, Dispatcher, Server, Replica, Joiner, Node, IsNode, node_number, Setting, IsLogOf, Disks, RunFault, Misplaced, IsCounted, IsWelcome, of_place, limit_at, limit_in, IsKeptIn, IsJournalOf, other_names, Images, IsDisk, joiner_of, place_at, site_of, IsAsked, EpochIs, KeepsEpoch, KeptDisk, KeptEpoch, KeptValues, Says, AreRecordsOf, all_named, at_name, was_journal, AreTold, ArePassed, IsCause, cause_more, failed_rose, passed_more, unread_rose, asked_of, HasPassed, IsCauseOf, IsLate, IsNearLast, IsOfRun, IsSpent, KeptAreJournals, NamesFailed, RunLog, TellsPlaces, disk_of, StorePlace, First, WereKept, IsKept, KeepsKind, Kept, EpochDisk, ServerDisk, TopologyDisk}
 use Rattle.outside.specs.declared.faults.StoreFault.TheVariants as store
-use Rattle.run_fault.specs.declared.fault.StorePlace.{StorePlace}
 use Rattle.run_fault.specs.declared.fault.StorePlace.TheVariants as place
 use Rattle.run_fault.specs.declared.fault.RunFault.TheVariants as fault
-use Rattle.site_node.specs.declared.kind.NodeDisk.TheVariants.{First}
-use Rattle.site_run.proofs.Naming.{disk_is}
-use Rattle.site_run.proofs.Places.{of_setting, owner}
-use Rattle.site_store.specs.Records.{AreKept, IsKept, KeepsAs}
-use Rattle.site_store.specs.Records as kinds
+use Rattle.site_run.proofs.Places.{disk_is, of_setting, owner}
 
 -- ---- what is known of a result
 
 pub on_ok_of : {T E P : Type 0} (r : Result T E) → P → OnOk r P
 on_ok_of (Ok x) p = p
 on_ok_of (Err e) p = tt
-
-pub ok_weaker : {T E P Q : Type 0} (r : Result T E) → (P → Q) → OnOk r P → OnOk r Q
-ok_weaker (Ok x) more p = more p
-ok_weaker (Err e) more p = tt
 
 pub err_both : {T E : Type 0} (A B C : E → Type 0) (r : Result T E) → IfErr r A → IfErr r B → ((e : E) → A e → B e → C e) → IfErr r C
 err_both A B C (Ok x) a b more = tt
@@ -35,7 +25,7 @@ module _ (g : Setting) (before : Images) (asked : Topology) (is : IsAsked asked 
   over_log : (disks : List KeptDisk) (told : Option Misplaced) → AreTold log_tells log end_ disks told → TellsPlaces g disks told
   over_log disks told against = against log_sure g log_is end_is
 
-  pub passed_so : (k : KeptValues) → AreKept tells before replicas asked.joiners k → ArePassed log_tells log end_ (Some asked) k → HasPassed g before
+  pub passed_so : (k : KeptValues) → WereKept tells before replicas asked.joiners k → ArePassed log_tells log end_ (Some asked) k → HasPassed g before
   passed_so k are passed = grind (arith, same_asked, passed_more, over_log)
 
   pub refused_so : (rose store_rose read faulted : Type 0) → (rose → read) → (store_rose → faulted) → (f : RunFault) → IsCause tells before replicas store_rose log_tells log end_ rose (Some asked) f → IsCauseOf g before read faulted f
@@ -61,24 +51,24 @@ module _ (g : Setting) (before : Images) (disks : List KeptDisk) (limits : limit
   abbrev KeptLess : DiskName → ℕ → Type 0
   KeptLess disk epoch = (epoch ≢ 4294967294) × IsKeptIn (before disk) (KeepsEpoch epoch)
 
-  of_disk : (disk : DiskName) (epoch : ℕ) → IsDisk g disk → disk ≢ name.Topology → ((k : kinds.Kept) → Says g d disk k → k ≡ EpochIs epoch) → KeptLess disk epoch
+  of_disk : (disk : DiskName) (epoch : ℕ) → IsDisk g disk → disk ≢ TopologyDisk → ((k : Kept) → Says g d disk k → k ≡ EpochIs epoch) → KeptLess disk epoch
   of_disk disk epoch here other said =
       let o = at_name (λ (d : KeptDisk). d.name) disks disk (subst (λ (l : List DiskName). Mem disk l) (sym named) (all_named g disk here other)) in
       let is = said o.0.kept (subst (λ (m : DiskName). Says g d m o.0.kept) o.2 (each_at (λ (k : KeptDisk). Says g d k.name k.kept) disks records o.0 o.1)) in (
         not_last o.0.name epoch (subst (λ k. limit_at o.0.name k ≡ None) is (none_at disks limits o.0 o.1)),
-        subst (λ (m : DiskName). IsKeptIn (before m) (KeepsEpoch epoch)) o.2 (subst (λ k. IsKeptIn (before o.0.name) (KeepsAs k)) is (each_at (IsKept before) disks kept o.0 o.1)),
+        subst (λ (m : DiskName). IsKeptIn (before m) (KeepsEpoch epoch)) o.2 (subst (λ k. IsKeptIn (before o.0.name) (KeepsKind k)) is (each_at (IsKept before) disks kept o.0 o.1)),
       )
 
   of_node : (n : Node) (epoch : ℕ) → IsNode g n → KeptEpoch d n epoch → KeptLess (disk_of g.config (node_number n) First) epoch
   of_node (Dispatcher s) epoch is had = absurd had
-  of_node (Server s) epoch is had = subst (λ m. KeptLess m epoch) (sym (disk_is g (Server s) is First)) (of_disk (name.Server s) epoch is (λ e. cc e) (λ k says. says ∙ ap EpochIs had))
+  of_node (Server s) epoch is had = subst (λ m. KeptLess m epoch) (sym (disk_is g (Server s) is First)) (of_disk (ServerDisk s) epoch is (λ e. cc e) (λ k says. says ∙ ap EpochIs had))
   of_node (Replica r) epoch is had = absurd had
   of_node (Joiner j) epoch is had =
       let site = site_of g.config j in
       let seat = place_at g.config j in
-      let number : joiner_of g site seat ≡ j = cc (owner g (Joiner j) (name.Epoch site seat) is (inl refl)) in
+      let number : joiner_of g site seat ≡ j = cc (owner g (Joiner j) (EpochDisk site seat) is (inl refl)) in
       subst (λ m. KeptLess m epoch) (sym (disk_is g (Joiner j) is First))
-      (of_disk (name.Epoch site seat) epoch (of_setting g (Joiner j) (name.Epoch site seat) is (inl refl)) (λ e. cc e) (λ k says. says ∙ ap EpochIs (ap (λ m. (d.joiners m).epoch) number ∙ had)))
+      (of_disk (EpochDisk site seat) epoch (of_setting g (Joiner j) (EpochDisk site seat) is (inl refl)) (λ e. cc e) (λ k says. says ∙ ap EpochIs (ap (λ m. (d.joiners m).epoch) number ∙ had)))
 
   -- so a node that came to it has met a fault, and its disk kept one near it
   late : (h : List BusEntry) (rose faulted : Type 0) → (rose → faulted) → (disk : DiskName) (epoch : ℕ) → IsSpent g h d rose disk epoch → (faulted × IsNearLast g before disk) × (epoch ≡ 4294967294)

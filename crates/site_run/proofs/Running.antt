@@ -1,22 +1,14 @@
 -- From what a run leaves of each node to what it leaves of the store.
 use Rattle.std.proofs.Common.{◌≡◌, ◌≢◌, inl, inr, ⊎_elim, ℕ, zero, suc, ◌+◌, ◌<◌, ◌≤◌, List, [], ◌∷◌, ◌++◌, length, map, slice_index_or, Bool, true, false, Option, None, Some, refl, sym, ap, ◌∙◌, subst, arith, length-append, IsTrue, IsSome, option_map}
-use Rattle.site_run.proofs.Words.{length-map, list_any, Mem, some_same, is_in_turn, DiskName, NamesFailed, disk_of, is_read, BusEntry, Bytes, Busy, Node, Dispatcher, Setting, IsNode, NumbersAreNodes, node_number, node_count, phase_by, NodeFault, World, Disks, disks, world_after, opening, NoJoinerStops, AreOf, RunFault, damaged_by, IsJournalOf, undamaged, Lent, IsOfOne, MayBeLeft, GoesOn, StateOf, kept_of, cell_of, made_by, HasMet, IsCaused, is_stop, stop_count, AreCaused, HasFault, AnyState, any_of, any_phase, IsRunFrom, HaveGrown, ComesToLast, all_from, topology_of, Images, IsDisk, AreKept, KeepsOf, node_with, KeepsTopology, Journals, Config, journal_of, by_topology, IsCounted, of_node, IsOfDisks, IsOfRun, IsSpent, RunLog, HoldsAs, HaveGoneOn, AllHold, AreHeld, AreMet, IsLeftBy, KeepsItsRecord, NoneStops, HasRun, HasRested, AreOut, IsClosed, KeepsAs, AllKeep, KeepsPairs, KeepsNotes, HoldSameRecords, ReadNotesAreKept, told_of, or_else, first_fault, lent_replicas, lent_outputs, AreKeptIn}
-use Rattle.outside.specs.declared.store.DiskName.TheVariants as name
+use Rattle.site_run.proofs.Words.{list_any, Mem, some_same, is_in_turn, DiskName, disk_of, is_read, BusEntry, Bytes, Busy, Node, Dispatcher, Joiner, Setting, IsNode, NumbersAreNodes, node_number, node_count, phase_by, NodeFault, World, Disks, disks, world_after, opening, NoJoinerStops, AreOf, RunFault, damaged_by, IsJournalOf, undamaged, Lent, IsOfOne, MayBeLeft, GoesOn, StateOf, kept_of, cell_of, made_by, HasMet, IsCaused, is_stop, stop_count, AreCaused, HasFault, AnyState, any_of, any_phase, IsRunFrom, HaveGrown, ComesToLast, all_from, topology_of, Images, IsDisk, AreKept, KeepsOf, node_with, KeepsTopology, Journals, Config, journal_of, by_topology, IsCounted, of_node, IsOfDisks, IsOfRun, RunLog, HoldsAs, AllHold, AreHeld, AreMet, IsLeftBy, KeepsItsRecord, NoneStops, HasRun, HasRested, AreOut, IsClosed, KeepsAs, AllKeep, KeepsPairs, KeepsNotes, HoldSameRecords, ReadNotesAreKept, told_of, or_else, first_fault, lent_replicas, lent_outputs, AreKeptIn, SettingTopology, First, Ghosts, names_of, topology_as, TopologyDisk}
 use Rattle.site_node.specs.declared.kind.NodeFault.TheVariants as node
 use Rattle.run_fault.specs.declared.fault.StorePlace.TheVariants as at
-use Rattle.topology_journal.specs.Topologies as journal
-use Rattle.photon_model.specs.Topology.{Topology}
-use Rattle.site_run.proofs.Going.{all_nodes_gone_on}
-use Rattle.site_run.proofs.Naming.{disk_among, log_is}
-use Rattle.site_node.specs.declared.kind.NodeDisk.TheVariants.{First}
-use Rattle.site_node.specs.declared.kind.SiteNode.{Ghosts}
-use Rattle.site_run.specs.Naming.{names_of}
+use Rattle.site_run.proofs.Going.{all_gone_on}
+use Rattle.site_run.proofs.Places.{at_place, disk_among, log_is}
 use Rattle.site_run.proofs.Lists.{some_of}
-use Rattle.site_run.proofs.Keeping.{all_kept, disk_there, lacks_none, topology_image}
+use Rattle.site_run.proofs.Keeping.{all_keep, all_kept, disk_there, lacks_none, topology_image}
 use Rattle.site_run.proofs.Outing.{given_goes_on, gone_out}
-use Rattle.site_run.proofs.Places.{at_place}
 use Rattle.site_run.proofs.ReadBack.{read_is}
-use Rattle.site_run.proofs.Reading.{all_keep}
 use Rattle.site_run.proofs.Walking.{phase_is}
 use Rattle.run_fault.specs.declared.fault.RunFault.TheVariants as run
 
@@ -48,21 +40,13 @@ record IsToldAt {N : Type 0} (config : Config) (first : ℕ) (ws : List (N × Op
   counted : number ≡ first + place
   told : (b : N × Option NodeFault) → (fault : NodeFault) × ((slice_index_or ws place b).1 ≡ Some fault) × (f ≡ of_node config number fault)
 
--- of the first node, or of a later one
-told_here : {N : Type 0} (config : Config) (first : ℕ) (w : N × Option NodeFault) (ws : List (N × Option NodeFault)) (f : RunFault) → (first_fault config (suc first) ws ≡ Some f → IsToldAt config (suc first) ws f)
-    → (o : Option NodeFault) → w.1 ≡ o → or_else (told_of config first o) (first_fault config (suc first) ws) ≡ Some f → IsToldAt config first (w ∷ ws) f
-told_here config first w ws f later None none is = let r = later is in record { place = suc r.place; number = r.number; within = omega (arith, r.within); counted = omega (arith, r.counted); told = λ b. r.told b }
-told_here config first w ws f later (Some fault) some is = record {
-  place = 0;
-  number = first;
-  within = omega arith;
-  counted = omega arith;
-  told = λ b. (fault, some, sym (some_same (of_node config first fault) f is));
-}
-
 told_at : {N : Type 0} (config : Config) (first : ℕ) (ws : List (N × Option NodeFault)) (f : RunFault) → first_fault config first ws ≡ Some f → IsToldAt config first ws f
 told_at config first [] f is = absurd (cc is)
-told_at config first (w ∷ ws) f is = told_here config first w ws f (told_at config (suc first) ws f) w.1 refl is
+told_at config first ((v, None) ∷ ws) f is =
+    let r = told_at config (suc first) ws f is in
+    record { place = suc r.place; number = r.number; within = omega (arith, r.within); counted = omega (arith, r.counted); told = λ b. r.told b }
+told_at config first ((v, Some fault) ∷ ws) f is =
+    record { place = 0; number = first; within = omega arith; counted = omega arith; told = λ b. (fault, refl, sym (some_same (of_node config first fault) f is)) }
 
 -- it is that of a node of the setting
 pub record IsToldOf {N : Type 0} (config : Config) (g : Setting) (ws : List (N × Option NodeFault)) (f : RunFault) : Type 0 where
@@ -93,15 +77,18 @@ told_of_node {N} config g numbers ws count f is =
     }
 
 -- what the topology's disk keeps is a journal of its kind
-topology_kept : (t : Option Topology) (c : List ℕ) → KeepsTopology t c → IsJournalOf name.Topology c
-topology_kept t c keeps = (option_map (λ (u : Topology). journal.topology_of u.joiners u.table) t, keeps)
+topology_kept : (t : Option SettingTopology) (c : List ℕ) → KeepsTopology t c → IsJournalOf TopologyDisk c
+topology_kept t c keeps = (option_map (λ (u : SettingTopology). topology_as u.joiners u.table) t, keeps)
 
 -- ---- what a run leaves
 
 module _ {N D : Type 0} (image : D → List ℕ → Type 0) (places : N → AnyState → Type 0) (grown : N → N → Type 0) (disks_of : Config → ℕ → N → List (Lent D)) (laws : AreHeld image places grown disks_of)
-    (g : Setting) (config : Config) (asked : g.config ≡ config) (numbers : NumbersAreNodes g) (d : Disks) (h : List BusEntry) (ws : List (N × Option NodeFault)) (rest : Bool)
-    (left : IsRunFrom places g d h ws rest) (count : length ws ≡ node_count g) (topology : Lent D) (kept : KeepsItsRecord image g topology) (inside after : Images)
+    (g : Setting) (config : Config) (asked : g.config ≡ config) (numbers : NumbersAreNodes g) (d : Disks) (log : RunLog) (ws : List (N × Option NodeFault)) (rest : Bool)
+    (left : IsRunFrom places g d log.air.history ws rest) (count : length ws ≡ node_count g) (topology : Lent D) (kept : KeepsItsRecord image g topology) (inside after : Images)
     (by : (disk : DiskName) (c : List ℕ) → after disk c → MayBeLeft image inside (topology ∷ all_from (λ i (w : N × Option NodeFault). disks_of config i w.0) 0 ws) disk c) where
+  abbrev h : List BusEntry
+  h = log.air.history
+
   abbrev disks_at : ℕ → N × Option NodeFault → List (Lent D)
   disks_at i w = disks_of config i w.0
 
@@ -138,64 +125,41 @@ module _ {N D : Type 0} (image : D → List ℕ → Type 0) (places : N → AnyS
     same n is = kept_same end_world n ∙ (left.run.stands n is).kept
 
     holds : (disk : DiskName) → IsDisk g disk → (c : List ℕ) → after disk c → KeepsOf g (disks end_world) disk c
-    holds disk is c here = all_keep image disks_at g left.at ws topology numbers keep kept.named (disks end_world) same disk is c (is_left disk is c here)
-
-    pub has_rested : (faulted : Type 0) (journals : Journals) → AreOf g (disks end_world) journals → ((faulted → ⊥) → NoJoinerStops left.entries) → HasRested g d h after faulted journals
-    has_rested faulted journals read stops = record {
-      at = left.at;
-      entries = left.entries;
-      run = left.run;
-      rest = left.at_rest resting;
-      keeps = keeps_all;
-      holds = holds;
-      read = read;
-      stops = stops;
-    }
+    holds disk is c here = all_keep image disks_at g left.at ws topology numbers hold kept.named keep (disks end_world) same disk is c (is_left disk is c here)
 
     -- what was read back is what the disks keep
     pub rests : HoldSameRecords → ReadNotesAreKept → (tells : Bool) → IsTrue tells → (journals : Journals) → AreKeptIn tells image KeepsNotes (lent_replicas (topology ∷ all_from disks_at 0 ws)) journals.notes.items
         → AreKeptIn tells image KeepsPairs (lent_outputs (topology ∷ all_from disks_at 0 ws)) journals.pairs.items → (faulted : Type 0) → ((faulted → ⊥) → NoJoinerStops left.entries) → HasRested g d h after faulted journals
     rests once read tells sure journals notes pairs faulted stops =
-        has_rested faulted journals (read_is image disks_at g numbers left.at ws topology tells journals once read keep kept.named (disks end_world) same sure notes pairs) stops
+        record {
+          at = left.at;
+          entries = left.entries;
+          run = left.run;
+          rest = left.at_rest resting;
+          keeps = keeps_all;
+          holds = holds;
+          read = read_is image disks_at g numbers left.at ws topology tells journals once read keep kept.named (disks end_world) same sure notes pairs;
+          stops = stops;
+        }
 
-  -- ---- unless a disk met a fault no joiner has stopped
-
-  module _ {L : Type 0} (disk_faults : D → ℕ) (log_faults : L → ℕ) (m : Ghosts N) (logs_of : N → List L) (met : AreMet disk_faults log_faults m places disks_of logs_of) where
-    pub no_stops : NoneStops → ((i : ℕ) (b : N × Option NodeFault) → i < length ws → HasMet m.faults m.waits (slice_index_or ws i b).0 (slice_index_or ws i b).1 (made_by i h)) → (faulted : Type 0)
-        → ((l : Lent D) → Mem l (topology ∷ all_from disks_at 0 ws) → 1 ≤ disk_faults l.disk → faulted) → (faulted → ⊥) → NoJoinerStops left.entries
-    no_stops law stopped faulted rises never =
-        law g d h left.at left.entries left.run
-        (λ j is has.
-        let below : j < length ws = omega (arith, is.1, count) in
-        let b = some_of ws (omega (arith, below)) in
-        let l = met.disks config j (slice_index_or ws j b).0 ((stopped j b below).stops has) in
-        never (rises l.0 (inr (at_place disks_at 0 j j ws b l.0 below (omega arith) l.1)) l.2))
-
-  -- ---- what is told where the run isn't at rest
-
-  module _ (resting : IsTrue rest) where
     -- at rest whatever a stop leaves of a disk is a journal of its kind
-    undamaged_now : (disk : DiskName) (at : ℕ) (c : List ℕ) → disk ≢ name.Topology → IsOfOne image (topology ∷ all_from disks_at 0 ws) disk c → damaged_by disk c at → ⊥
-    undamaged_now disk at c other here =
-        let is = disk_there image disks_at g left.at ws topology numbers hold kept.named disk other here.one here.among here.named in
-        undamaged disk c at (journal_of g (disks (world_after g (opening d) left.entries)) disk other c
-        (all_keep image disks_at g left.at ws topology numbers (keep resting) kept.named (disks (world_after g (opening d) left.entries)) (same resting) disk is c here))
-
-    pub never_damaged : (disk : DiskName) (at : ℕ) (c : List ℕ) → IsOfOne image (topology ∷ all_from disks_at 0 ws) disk c → damaged_by disk c at → ⊥
+    never_damaged : (disk : DiskName) (at : ℕ) (c : List ℕ) → IsOfOne image (topology ∷ all_from disks_at 0 ws) disk c → damaged_by disk c at → ⊥
     never_damaged disk at =
         by_topology (λ disk. (c : List ℕ) → IsOfOne image (topology ∷ all_from disks_at 0 ws) disk c → damaged_by disk c at → ⊥)
-        (λ c here. undamaged name.Topology c at (topology_kept (Some (topology_of g)) c (kept.keeps c (topology_image image disks_at g left.at ws topology numbers hold kept.named c here)))) (λ disk other c here. undamaged_now disk at c other here) disk
+        (λ c here. undamaged TopologyDisk c at (topology_kept (Some (topology_of g)) c (kept.keeps c (topology_image image disks_at g left.at ws topology numbers hold kept.named c here))))
+        (λ disk other c here.
+        let is = disk_there image disks_at g left.at ws topology numbers hold kept.named disk other here.one here.among here.named in
+        undamaged disk c at (journal_of g (disks end_world) disk other c (all_keep image disks_at g left.at ws topology numbers hold kept.named keep (disks end_world) same disk is c here))) disk
 
     -- so a fault of reading them back is none of damage
-    pub read_back_of : (log : RunLog) → log.air.history ≡ h → (faulted : Type 0) (f : RunFault) → (tells : Bool) → IsTrue tells → IsOfDisks tells image (topology ∷ all_from disks_at 0 ws) faulted f → IsOfRun g d faulted (Some log) f
-    read_back_of log same faulted (run.Store (at.Disk disk)) tells sure of =
+    pub read_back_of : (faulted : Type 0) (f : RunFault) → (tells : Bool) → IsTrue tells → IsOfDisks tells image (topology ∷ all_from disks_at 0 ws) faulted f → IsOfRun g d faulted (Some log) f
+    read_back_of faulted (run.Store (at.Disk disk)) tells sure of =
         let read = of.0.0 in
-        let other : disk ≢ name.Topology = λ e. absurd (cc (sym (ap is_read e) ∙ read)) in
-        subst (λ l. NamesFailed g l (run.Store (at.Disk disk))) (sym same)
-        (inr (left.still resting, disk_there image disks_at g left.at ws topology numbers hold kept.named disk other of.0.1 of.0.2 of.0.3, read))
-    read_back_of log same faulted (run.Damaged disk at) tells sure of = let x = of sure in never_damaged disk at x.0 x.1 x.2
-    read_back_of log same faulted run.Memory tells sure of = tt
-    read_back_of log same faulted _ tells sure of = absurd of
+        let other : disk ≢ TopologyDisk = λ e. absurd (cc (sym (ap is_read e) ∙ read)) in
+        inr (left.still resting, disk_there image disks_at g left.at ws topology numbers hold kept.named disk other of.0.1 of.0.2 of.0.3, read)
+    read_back_of faulted (run.Damaged disk at) tells sure of = let x = of sure in never_damaged disk at x.0 x.1 x.2
+    read_back_of faulted run.Memory tells sure of = tt
+    read_back_of faulted _ tells sure of = absurd of
 
   module _ {L : Type 0} (disk_faults : D → ℕ) (log_faults : L → ℕ) (m : Ghosts N) (logs_of : N → List L) (met : AreMet disk_faults log_faults m places disks_of logs_of)
       (stopped : (i : ℕ) (b : N × Option NodeFault) → i < length ws → HasMet m.faults m.waits (slice_index_or ws i b).0 (slice_index_or ws i b).1 (made_by i h)) (faulted : Type 0)
@@ -215,44 +179,39 @@ module _ {N D : Type 0} (image : D → List ℕ → Type 0) (places : N → AnyS
         let l = met.disks config j (slice_index_or ws j (one_of n is)).0 ((met_at n is).stops has) in
         rises l.0 (inr (at_place disks_at 0 j j ws (one_of n is) l.0 (inside_all n is) (omega arith) l.1)) l.2
 
-    module _ (log : RunLog) (same : log.air.history ≡ h) where
-      -- the last entries of its node say so of a limit
-      spent_so : (n : Node) (epoch : ℕ) → IsNode g n → ComesToLast d h n epoch → IsSpent g log.air.history d faulted (disk_of config (node_number n) First) epoch
-      spent_so n epoch is came =
-          subst (λ l. IsSpent g l d faulted (disk_of config (node_number n) First) epoch) (sym same)
-          (record {
-            node = n;
-            is = is;
-            named = ap (λ (k : Config). disk_of k (node_number n) First) (sym asked);
-            came = came;
-            few = (met_at n is).most;
-            met = λ some. has_stopped n is (some_counted (made_by (node_number n) h) some);
-          })
+    -- unless a disk met a fault no joiner has stopped
+    pub no_stops : NoneStops → (faulted → ⊥) → NoJoinerStops left.entries
+    no_stops law never = law g d h left.at left.entries left.run (λ j is has. never (has_stopped (Joiner j) is has))
 
-      -- a node whose work ended so is in a turn
-      in_turn : (n : Node) → IsNode g n → (b : N × Option NodeFault) (f : NodeFault) → (slice_index_or ws (node_number n) b).1 ≡ Some f → f ≢ node.Stopped → f ≢ node.Memory → is_in_turn (made_by (node_number n) log.air.history) ≡ true
-      in_turn n is b f told other short = subst (λ l. is_in_turn (made_by (node_number n) l) ≡ true) (sym same) ((stopped (node_number n) b (inside_all n is)).within f told other short)
+    -- a node whose work ended so is in a turn
+    in_turn : (n : Node) → IsNode g n → (b : N × Option NodeFault) (f : NodeFault) → (slice_index_or ws (node_number n) b).1 ≡ Some f → f ≢ node.Stopped → f ≢ node.Memory → is_in_turn (made_by (node_number n) h) ≡ true
+    in_turn n is b f told other short = (stopped (node_number n) b (inside_all n is)).within f told other short
 
-      -- what is told of a node
-      node_told : AreCaused m.disk_faults m.log_faults ws → (n : Node) → IsNode g n → (b : N × Option NodeFault) (f : NodeFault) → (slice_index_or ws (node_number n) b).1 ≡ Some f → IsOfRun g d faulted (Some log) (of_node config (node_number n) f)
-      node_told caused n is b node.Stopped told =
-          (n, is, refl, subst (λ l. stop_count (made_by (node_number n) l) ≡ 8) (sym same) ((stopped (node_number n) b (inside_all n is)).ended told))
-      node_told caused n is b (node.Disk disk) told =
-          inl (n, is, subst (λ (k : Config). Mem (disk_of k (node_number n) disk) (names_of g.config n)) asked (disk_among g n is disk), in_turn n is b (node.Disk disk) told (λ e. cc e) (λ e. cc e))
-      node_told caused n is b (node.Damaged disk at) told = left.whole n is b disk at told
-      node_told caused n is b node.Read told =
-          let j = node_number n in
-          let w = slice_index_or ws j b in
-          let some = (caused j b (inside_all n is)).read told in
-          (n, is, log_is g n is (met.reads n (left.at n) w.0 (left.stand n is b) some), in_turn n is b node.Read told (λ e. cc e) (λ e. cc e))
-      node_told caused n is b (node.Spent epoch) told = spent_so n epoch is (left.spent n is b epoch told)
-      node_told caused n is b node.Memory told = tt
+    -- what is told of a node
+    node_told : AreCaused m.disk_faults m.log_faults ws → (n : Node) → IsNode g n → (b : N × Option NodeFault) (f : NodeFault) → (slice_index_or ws (node_number n) b).1 ≡ Some f → IsOfRun g d faulted (Some log) (of_node config (node_number n) f)
+    node_told caused n is b node.Stopped told = (n, is, refl, (stopped (node_number n) b (inside_all n is)).ended told)
+    node_told caused n is b (node.Disk disk) told =
+        inl (n, is, subst (λ (k : Config). Mem (disk_of k (node_number n) disk) (names_of g.config n)) asked (disk_among g n is disk), in_turn n is b (node.Disk disk) told (λ e. cc e) (λ e. cc e))
+    node_told caused n is b (node.Damaged disk at) told = left.whole n is b disk at told
+    node_told caused n is b node.Read told =
+        let j = node_number n in
+        (n, is, log_is g n is (met.reads n (left.at n) (slice_index_or ws j b).0 (left.stand n is b) ((caused j b (inside_all n is)).read told)), in_turn n is b node.Read told (λ e. cc e) (λ e. cc e))
+    -- the last entries of its node say so of a limit
+    node_told caused n is b (node.Spent epoch) told = record {
+      node = n;
+      is = is;
+      named = ap (λ (k : Config). disk_of k (node_number n) First) (sym asked);
+      came = left.spent n is b epoch told;
+      few = (met_at n is).most;
+      met = λ some. has_stopped n is (some_counted (made_by (node_number n) h) some);
+    }
+    node_told caused n is b node.Memory told = tt
 
-      -- and so what is told of the first that has a fault
-      pub first_told : AreCaused m.disk_faults m.log_faults ws → (f : RunFault) → first_fault config 0 ws ≡ Some f → IsOfRun g d faulted (Some log) f
-      first_told caused f is =
-          let t = told_of_node config g numbers ws count f is in
-          subst (IsOfRun g d faulted (Some log)) (sym t.told) (node_told caused t.node t.is t.default t.fault t.has)
+    -- and so what is told of the first that has a fault
+    pub first_told : AreCaused m.disk_faults m.log_faults ws → (f : RunFault) → first_fault config 0 ws ≡ Some f → IsOfRun g d faulted (Some log) f
+    first_told caused f is =
+        let t = told_of_node config g numbers ws count f is in
+        subst (IsOfRun g d faulted (Some log)) (sym t.told) (node_told caused t.node t.is t.default t.fault t.has)
 
 -- ---- how many disks there are
 
@@ -270,38 +229,14 @@ same_count {N} f count each k (v ∷ vs) (w ∷ ws) long same =
 
 -- ---- how the disks have gone on
 
-same_from : {N X : Type 0} (f : ℕ → N → List X) (i : ℕ) (ws : List (N × Option NodeFault)) → all_from f i (map (λ (w : N × Option NodeFault). w.0) ws) ≡ all_from (λ k (w : N × Option NodeFault). f k w.0) i ws
-same_from f i [] = refl
-same_from {N} {X} f i (w ∷ ws) = ap (λ (l : List X). f i w.0 ++ l) (same_from f (suc i) ws)
-
-at_first : {N : Type 0} (ws : List (N × Option NodeFault)) (i : ℕ) (a : N) (b : N × Option NodeFault) → i < length ws → slice_index_or (map (λ (w : N × Option NodeFault). w.0) ws) i a ≡ (slice_index_or ws i b).0
-at_first [] i a b l = absurd (omega (arith, l))
-at_first (w ∷ ws) zero a b l = refl
-at_first (w ∷ ws) (suc i) a b l = at_first ws i a b (omega (arith, l))
-
-module _ {N D : Type 0} (image : D → List ℕ → Type 0) (places : N → AnyState → Type 0) (grown : N → N → Type 0) (disks_of : Config → ℕ → N → List (Lent D)) (laws : AreHeld image places grown disks_of)
-    (g : Setting) (config : Config) (numbers : NumbersAreNodes g) (vs : List N) (ws : List (N × Option NodeFault)) (count_before : length vs ≡ node_count g) (count : length ws ≡ length vs) (grew : HaveGrown grown g vs ws) where
-  abbrev olds : List (Lent D)
-  olds = all_from (disks_of config) 0 vs
-
-  abbrev news : List (Lent D)
-  news = all_from (λ i (w : N × Option NodeFault). disks_of config i w.0) 0 ws
-
-  have_gone_on : HaveGoneOn image olds news
-  have_gone_on =
-      let firsts_of = map (λ (w : N × Option NodeFault). w.0) ws in
-      subst (λ (l : List (Lent D)). HaveGoneOn image olds l) (same_from (disks_of config) 0 ws)
-      (all_nodes_gone_on image (disks_of config) g numbers vs firsts_of count_before (length-map ws (λ (w : N × Option NodeFault). w.0) ∙ count)
-      (λ n is a c.
-      let below : node_number n < length ws = let under = numbers.below n is in omega (arith, under, count_before, count) in
-      let b = some_of ws (omega (arith, below)) in
-      let grows = grew n is a b in
-      subst (λ (w : N). HaveGoneOn image (disks_of config (node_number n) (slice_index_or vs (node_number n) a)) (disks_of config (node_number n) w)) (sym (at_first ws (node_number n) c b below))
-      (laws.gone_on config (node_number n) grows.0 (slice_index_or vs (node_number n) a) (slice_index_or ws (node_number n) b).0 grows.1)))
-
-  pub goes_on : (topology : Lent D) (before inside after : Images) → AreOut image before inside topology olds
-      → ((disk : DiskName) (c : List ℕ) → after disk c → MayBeLeft image inside (topology ∷ news) disk c) → (disk : DiskName) → GoesOn (before disk) (after disk)
-  goes_on topology before inside after out by disk c here = given_goes_on image before inside topology news (gone_out image before inside topology olds news have_gone_on out) disk c (by disk c here)
+pub goes_on : {N D : Type 0} (image : D → List ℕ → Type 0) (places : N → AnyState → Type 0) (grown : N → N → Type 0) (disks_of : Config → ℕ → N → List (Lent D)) → AreHeld image places grown disks_of
+    → (g : Setting) (config : Config) → NumbersAreNodes g → (vs : List N) (ws : List (N × Option NodeFault)) → length vs ≡ node_count g → length ws ≡ length vs → HaveGrown grown g vs ws
+    → (topology : Lent D) (before inside after : Images) → AreOut image before inside topology (all_from (disks_of config) 0 vs)
+    → ((disk : DiskName) (c : List ℕ) → after disk c → MayBeLeft image inside (topology ∷ all_from (λ i (w : N × Option NodeFault). disks_of config i w.0) 0 ws) disk c) → (disk : DiskName) → GoesOn (before disk) (after disk)
+goes_on {N} image places grown disks_of laws g config numbers vs ws count_before count grew topology before inside after out by disk c here =
+    let gone = all_gone_on image (disks_of config) (λ i (w : N × Option NodeFault). disks_of config i w.0) g numbers vs ws count_before count
+    (λ n is a b. let grows = grew n is a b in laws.gone_on config (node_number n) grows.0 (slice_index_or vs (node_number n) a) (slice_index_or ws (node_number n) b).0 grows.1) in
+    given_goes_on image before inside topology _ (gone_out image before inside topology _ _ gone out) disk c (by disk c here)
 
 -- ---- the fault that is told
 

@@ -1,126 +1,82 @@
 -- Disks that were read back, and are given back then.
-use Rattle.std.proofs.Common.{◌≡◌, ◌≢◌, inl, inr, ⊎_elim, ℕ, zero, suc, ◌≤◌, length, take, drop, List, [], ◌∷◌, ◌++◌, map, Bool, true, false, refl, sym, ap, ◌∙◌, subst, arith, IsTrue, filter, if◌then◌else◌, Result, Ok, Err, IfOk, IfErr, OnOk}
-use Rattle.site_run.proofs.Words.{append-nil, Mem, Each, DiskName, RunFault, damaged_by, Lent, Lacks, IsOfOne, MayBeLeft, LentDisk, EachWith, OneWith, AreReadFrom, IsOnlyRead, IsToldBy, AreAmongImages, as_lent, IsOfDisks, AreKeptIn, AreUp}
-use Rattle.site_run.specs.Causes.{IsReadBack}
-use Rattle.run_fault.specs.declared.fault.StorePlace.{StorePlace}
+use Rattle.std.proofs.Common.{◌≡◌, ◌≢◌, ◌⊎◌, inl, inr, ⊎_elim, ℕ, ◌≤◌, List, [], ◌∷◌, ◌++◌, map, Bool, true, false, refl, sym, ap, ◌∙◌, subst, arith, IsTrue, filter, if◌then◌else◌, Result, Ok, Err, IfErr, IfOk}
+use Rattle.site_run.proofs.Words.{Mem, Each, each_at, each_from, at_name, named_mem, DiskName, RunFault, StorePlace, damaged_by, Lent, Lacks, IsOfOne, MayBeLeft, LentDisk, EachWith, OneWith, AreReadFrom, IsOnlyRead, IsToldBy, AreAmongImages, as_lent, IsOfDisks, AreKeptIn, AreUp}
 use Rattle.run_fault.specs.declared.fault.StorePlace.TheVariants as place
 use Rattle.run_fault.specs.declared.fault.RunFault.TheVariants as fault
-
--- ---- a list that was changed in place, as long as before
-
-take_all : {A : Type 0} (n : ℕ) (xs : List A) → n ≡ length xs → take n xs ≡ xs
-take_all zero [] is = refl
-take_all zero (x ∷ xs) is = absurd (omega (arith, is))
-take_all (suc n) [] is = absurd (omega (arith, is))
-take_all (suc n) (x ∷ xs) is = ap (λ l. x ∷ l) (take_all n xs (omega (arith, is)))
-
-drop_all : {A : Type 0} (n : ℕ) (xs : List A) → n ≡ length xs → drop n xs ≡ []
-drop_all zero [] is = refl
-drop_all zero (x ∷ xs) is = absurd (omega (arith, is))
-drop_all (suc n) [] is = refl
-drop_all (suc n) (x ∷ xs) is = drop_all n xs (omega (arith, is))
-
-pub written_back : {A : Type 0} (new old : List A) (len : ℕ) → length new ≡ length old → len ≡ length old → take len (new ++ drop (length new) old) ≡ new
-written_back new old len same is =
-    ap (λ l. take len (new ++ l)) (drop_all (length new) old same) ∙ ap (take len) (append-nil new) ∙ take_all len new (is ∙ sym same)
-
--- ---- a result that is known
-
-pub ok_of : {T E : Type 0} (P : T → Type 0) (r : Result T E) (x : T) → r ≡ Ok x → IfOk r P → P x
-ok_of {T} {E} P r x is p = subst (λ (q : Result T E). IfOk q P) is p
-
-pub on_ok : {T E : Type 0} (P : Type 0) (r : Result T E) (x : T) → r ≡ Ok x → OnOk r P → P
-on_ok {T} {E} P r x is p = subst (λ (q : Result T E). OnOk q P) is p
-
-pub err_of : {T E : Type 0} (P : E → Type 0) (r : Result T E) (x : E) → r ≡ Err x → IfErr r P → P x
-err_of {T} {E} P r x is p = subst (λ (q : Result T E). IfErr q P) is p
+use Rattle.site_run.proofs.Lists.{one_of, one_with, with_one}
 
 module _ {D : Type 0} (tells : Bool) (seen : D → List ℕ) (image : D → List ℕ → Type 0) (since : D → D → List ℕ → Type 0) (faults : D → ℕ) (planned : Bool) (is_down : D → Bool) where
-  abbrev OnlyRead : List (LentDisk D) → List (LentDisk D) → Type 0
-  OnlyRead olds news = EachWith (IsOnlyRead tells seen image since faults planned is_down) olds news
+  module _ (olds news : List (LentDisk D)) where
+    abbrev Only : LentDisk D → LentDisk D → Type 0
+    Only = IsOnlyRead tells seen image since faults planned is_down
 
-  lacks_back : (disk : DiskName) (olds news : List (LentDisk D)) → OnlyRead olds news → Lacks (map as_lent news) disk → Lacks (map as_lent olds) disk
-  lacks_back disk [] [] only lacks = tt
-  lacks_back disk [] (n ∷ news) only lacks = absurd only
-  lacks_back disk (o ∷ olds) [] only lacks = absurd only
-  lacks_back disk (o ∷ olds) (n ∷ news) only lacks = (λ is. lacks.0 (only.0.named ∙ is), lacks_back disk olds news only.1 lacks.1)
+    abbrev Told : RunFault → Type 0
+    Told f = OneWith (λ old new. IsToldBy tells image faults planned is_down old new f) olds news
 
-  one_back : IsTrue tells → (disk : DiskName) (c : List ℕ) (olds news : List (LentDisk D)) → OnlyRead olds news → (l : Lent D) → Mem l (map as_lent news) → l.name ≡ disk → image l.disk c
-      → IsOfOne image (map as_lent olds) disk c
-  one_back sure disk c [] [] only l among named may = absurd among
-  one_back sure disk c [] (n ∷ news) only l among named may = absurd only
-  one_back sure disk c (o ∷ olds) [] only l among named may = absurd only
-  one_back sure disk c (o ∷ olds) (n ∷ news) only l among named may =
-      ⊎_elim
-      (λ is. record {
-        one = as_lent o;
-        among = inl refl;
-        named = sym only.0.named ∙ ap (λ (x : Lent D). x.name) is ∙ named;
-        may = (only.0.moments sure).now c (subst (λ (x : Lent D). image x.disk c) (sym is) may);
-      })
-      (λ later. let r = one_back sure disk c olds news only.1 l later named may in record { one = r.one; among = inr r.among; named = r.named; may = r.may })
-      among
+    among_old : (o : LentDisk D) → Mem o olds → Mem (as_lent o) (map as_lent olds)
+    among_old o among = named_mem as_lent olds o among
 
-  -- what is left of the disks as they were read is what was left of them before
-  pub left_read : IsTrue tells → (inside : DiskName → List ℕ → Type 0) (olds news : List (LentDisk D)) → OnlyRead olds news → (disk : DiskName) (c : List ℕ) → MayBeLeft image inside (map as_lent news) disk c
-      → MayBeLeft image inside (map as_lent olds) disk c
-  left_read sure inside olds news only disk c may =
-      ⊎_elim (λ in_it. inl (lacks_back disk olds news only in_it.0, in_it.1)) (λ of. inr (one_back sure disk c olds news only of.one of.among of.named of.may)) may
+    module _ (only : EachWith Only olds news) where
+      -- the disk that one was read from, and what one that was read is now
+      from_old : (l : Lent D) → Mem l (map as_lent news) → (o : LentDisk D) × (n : LentDisk D) × Mem (as_lent o) (map as_lent olds) × (as_lent n ≡ l) × Only o n
+      from_old l among =
+          let n = at_name as_lent news l among in
+          let o = one_with Only olds news only n.0 n.1 in
+          (o.0, n.0, among_old o.0 o.1, n.2, o.2)
 
-  -- a disk that had met a fault has met it still
-  pub met_read : (olds news : List (LentDisk D)) → OnlyRead olds news → (l : Lent D) → Mem l (map as_lent olds) → 1 ≤ faults l.disk → (m : Lent D) × Mem m (map as_lent news) × (1 ≤ faults m.disk)
-  met_read [] [] only l among some = absurd among
-  met_read [] (n ∷ news) only l among some = absurd only
-  met_read (o ∷ olds) [] only l among some = absurd only
-  met_read (o ∷ olds) (n ∷ news) only l among some =
-      ⊎_elim
-      (λ is. let here : 1 ≤ faults o.disk = subst (λ (x : Lent D). 1 ≤ faults x.disk) (sym is) some in (as_lent n, inl refl, omega (arith, here, only.0.count)))
-      (λ later. let r = met_read olds news only.1 l later some in (r.0, inr r.1, r.2))
-      among
+      to_new : (l : Lent D) → Mem l (map as_lent olds) → (o : LentDisk D) × (n : LentDisk D) × Mem (as_lent n) (map as_lent news) × (as_lent o ≡ l) × Only o n
+      to_new l among =
+          let o = at_name as_lent olds l among in
+          let n = with_one Only olds news only o.0 o.1 in
+          (o.0, n.0, named_mem as_lent news n.0 n.1, o.2, n.2)
 
-  -- disks that are up meet no fault, and none is told of them
-  pub calm_read : IsTrue planned → (olds news : List (LentDisk D)) → OnlyRead olds news → AreUp is_down (map as_lent olds) → Each (λ (l : Lent D). faults l.disk ≡ 0) (map as_lent olds) → Each (λ (l : Lent D). faults l.disk ≡ 0) (map as_lent news)
-  calm_read sure [] [] only up calm = tt
-  calm_read sure [] (n ∷ ns) only up calm = absurd only
-  calm_read sure (o ∷ os) [] only up calm = absurd only
-  calm_read sure (o ∷ os) (n ∷ ns) only up calm = (only.0.calm sure up.0 ∙ calm.0, calm_read sure os ns only.1 up.1 calm.1)
+      -- what is left of the disks as they were read is what was left of them before
+      pub left_read : IsTrue tells → (inside : DiskName → List ℕ → Type 0) (disk : DiskName) (c : List ℕ) → MayBeLeft image inside (map as_lent news) disk c → MayBeLeft image inside (map as_lent olds) disk c
+      left_read sure inside disk c may =
+          ⊎_elim
+          (λ in_it. inl (
+            each_from (λ (l : Lent D). l.name ≢ disk) (map as_lent olds)
+                (λ l among is. let r = to_new l among in each_at (λ (x : Lent D). x.name ≢ disk) (map as_lent news) in_it.0 (as_lent r.1) r.2 (r.4.named ∙ ap (λ (x : Lent D). x.name) r.3 ∙ is)),
+            in_it.1,
+          ))
+          (λ of. let r = from_old of.one of.among in inr (record { one = as_lent r.0; among = r.2; named = sym r.4.named ∙ ap (λ (x : Lent D). x.name) r.3 ∙ of.named; may = (r.4.moments sure).now c (subst (λ (x : Lent D). image x.disk c) (sym r.3) of.may) }))
+          may
 
-  none_told : (olds news : List (LentDisk D)) → OneWith (λ old new. ⊥) olds news → ⊥
-  none_told [] news one = one
-  none_told (o ∷ olds) [] one = one
-  none_told (o ∷ olds) (n ∷ news) one = ⊎_elim (λ here. here) (λ later. none_told olds news later) one
+      -- a disk that had met a fault has met it still
+      pub met_read : (l : Lent D) → Mem l (map as_lent olds) → 1 ≤ faults l.disk → (m : Lent D) × Mem m (map as_lent news) × (1 ≤ faults m.disk)
+      met_read l among some =
+          let r = to_new l among in
+          let here : 1 ≤ faults r.0.disk = subst (λ (x : Lent D). 1 ≤ faults x.disk) (sym r.3) some in
+          let count = r.4.count in
+          (as_lent r.1, r.2, omega (arith, here, count))
 
-  pub up_read : IsTrue planned → (olds news : List (LentDisk D)) → OnlyRead olds news → AreUp is_down (map as_lent olds) → (f : RunFault) → OneWith (λ old new. IsToldBy tells image faults planned is_down old new f) olds news → (at : StorePlace) → f ≢ fault.Store at
-  up_read sure [] news only up f one at is = one
-  up_read sure (o ∷ os) [] only up f one at is = one
-  up_read sure (o ∷ os) (n ∷ ns) only up f one at is = grind (arith, up_read sure os ns only.1 up.1 f)
+      -- disks that are up meet no fault, and none is told of them
+      pub calm_read : IsTrue planned → AreUp is_down (map as_lent olds) → Each (λ (l : Lent D). faults l.disk ≡ 0) (map as_lent olds) → Each (λ (l : Lent D). faults l.disk ≡ 0) (map as_lent news)
+      calm_read sure up calm =
+          each_from (λ (l : Lent D). faults l.disk ≡ 0) (map as_lent news)
+          (λ l among.
+          let r = from_old l among in
+          subst (λ (x : Lent D). faults x.disk ≡ 0) r.3 (r.4.calm sure (each_at _ (map as_lent olds) up (as_lent r.0) r.2) ∙ each_at (λ (x : Lent D). faults x.disk ≡ 0) (map as_lent olds) calm (as_lent r.0) r.2))
 
-  -- a fault of reading is one of a disk
-  told_store : (disk : DiskName) (olds news : List (LentDisk D)) (rose : Type 0) → ((l : Lent D) → Mem l (map as_lent news) → 1 ≤ faults l.disk → rose)
-      → OneWith (λ old new. IsToldBy tells image faults planned is_down old new (fault.Store (place.Disk disk))) olds news → IsReadBack (map as_lent olds) disk × rose
-  told_store disk [] news rose rises one = absurd one
-  told_store disk (o ∷ olds) [] rose rises one = absurd one
-  told_store disk (o ∷ olds) (n ∷ news) rose rises one =
-      ⊎_elim (λ here. let risen = here.2 in ((here.1, as_lent o, inl refl, here.0), rises (as_lent n) (inl refl) (omega (arith, risen))))
-      (λ later. let r = told_store disk olds news rose (λ l among some. rises l (inr among) some) later in ((r.0.0, r.0.1, inr r.0.2, r.0.3), r.1)) one
+    pub up_read : IsTrue planned → AreUp is_down (map as_lent olds) → (f : RunFault) → Told f → (at : StorePlace) → f ≢ fault.Store at
+    up_read sure up f one at is =
+        let r = one_of _ olds news one in
+        let here = each_at _ (map as_lent olds) up (as_lent r.0) (among_old r.0 r.2) in
+        let told = r.4 in
+        grind arith
 
-  -- or of bytes that may be left of one
-  told_damaged : (disk : DiskName) (at : ℕ) (olds news : List (LentDisk D)) → OneWith (λ old new. IsToldBy tells image faults planned is_down old new (fault.Damaged disk at)) olds news → IsTrue tells
-      → (c : List ℕ) × IsOfOne image (map as_lent olds) disk c × damaged_by disk c at
-  told_damaged disk at [] news one sure = absurd one
-  told_damaged disk at (o ∷ olds) [] one sure = absurd one
-  told_damaged disk at (o ∷ olds) (n ∷ news) one sure =
-      ⊎_elim
-      (λ here. let x = here.1 sure in (x.0, record { one = as_lent o; among = inl refl; named = here.0; may = x.1 }, x.2))
-      (λ later. let r = told_damaged disk at olds news later sure in (r.0, record { one = r.1.one; among = inr r.1.among; named = r.1.named; may = r.1.may }, r.2))
-      one
-
-  pub told_counted : (f : RunFault) (olds news : List (LentDisk D)) (rose : Type 0) → ((l : Lent D) → Mem l (map as_lent news) → 1 ≤ faults l.disk → rose)
-      → OneWith (λ old new. IsToldBy tells image faults planned is_down old new f) olds news → IsOfDisks tells image (map as_lent olds) rose f
-  told_counted (fault.Store (place.Disk disk)) olds news rose rises one = told_store disk olds news rose rises one
-  told_counted (fault.Damaged disk at) olds news rose rises one = told_damaged disk at olds news one
-  told_counted fault.Memory olds news rose rises one = tt
-  told_counted _ olds news rose rises one = absurd (none_told olds news one)
+    -- a fault of reading is one of a disk, or of bytes that may be left of one
+    pub told_counted : (f : RunFault) (rose : Type 0) → ((l : Lent D) → Mem l (map as_lent news) → 1 ≤ faults l.disk → rose) → Told f → IsOfDisks tells image (map as_lent olds) rose f
+    told_counted (fault.Store (place.Disk disk)) rose rises one =
+        let r = one_of _ olds news one in
+        let risen = r.4.2 in
+        ((r.4.1, as_lent r.0, among_old r.0 r.2, r.4.0), rises (as_lent r.1) (named_mem as_lent news r.1 r.3) (omega (arith, risen)))
+    told_counted (fault.Damaged disk at) rose rises one = λ sure.
+        let r = one_of _ olds news one in
+        let x = r.4.1 sure in
+        (x.0, record { one = as_lent r.0; among = among_old r.0 r.2; named = r.4.0; may = x.1 }, x.2)
+    told_counted fault.Memory rose rises one = tt
+    told_counted _ rose rises one = absurd (one_of _ olds news one).4
 
   -- ---- what was read
 
@@ -148,6 +104,10 @@ module _ {D : Type 0} (tells : Bool) (seen : D → List ℕ) (image : D → List
 pub ok_three : {T E : Type 0} (A B C Q : T → Type 0) (r : Result T E) → IfOk r A → IfOk r B → IfOk r C → ((x : T) → A x → B x → C x → Q x) → IfOk r Q
 ok_three A B C Q (Ok x) a b c q = q x a b c
 ok_three A B C Q (Err e) a b c q = tt
+
+pub err_cases : {T E : Type 0} (A B P : E → Type 0) (r : Result T E) → IfErr r (λ e. A e ⊎ B e) → ((e : E) → A e → P e) → ((e : E) → B e → P e) → IfErr r P
+err_cases A B P (Ok x) one a b = tt
+err_cases A B P (Err e) one a b = ⊎_elim (a e) (b e) one
 
 -- ---- the topology's disk in front of the others
 

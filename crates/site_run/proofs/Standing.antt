@@ -1,14 +1,11 @@
--- From what a run leaves of each node to the run of the whole system.
-use Rattle.std.proofs.Common.{◌≡◌, ◌≢◌, ℕ, ◌≤◌, ◌<◌, List, [], ◌∷◌, length, slice_index_or, Bool, true, false, Option, Some, None, refl, sym, ap, ◌∙◌, subst, arith, IsTrue, fold}
+-- From what a run leaves of each node to the run of the whole system, and which nodes may be dead.
+use Rattle.std.proofs.Common.{◌≡◌, ◌≢◌, ℕ, ◌≤◌, ◌<◌, List, [], ◌∷◌, length, slice_index_or, Bool, true, false, Option, Some, None, refl, sym, ap, ◌∙◌, subst, arith, IsTrue, fold, suc, ◌+◌, ◌-◌, ◌*◌, ◌&&◌, ◌++◌, replicate, length-append}
+use Rattle.site_run.proofs.Words.{get_or_default, Begin, End, Stop, Entry, Phase, is_begin, is_in_turn, Idle, Busy, Bytes, Kind, PlanView, IsAired, phase, is_dead, Node, Dispatcher, Server, Replica, Joiner, Setting, IsNode, NumbersAreNodes, node_number, node_of, node_count, NodeDisk, NodeFault, Damaged, Spent, Rows, State, state_phase, phase_by, dispatcher_at_rest, joiner_at_rest, server_at_rest, Disks, UpWith, StateOf, rows_of, down_over, RestsAt, StatesRest, made_by, EachWalked, IsRunOf, AiredIsRun, Chosen, choose, StandsAt, LeadsOn, GrowsOn, Reached, Rests, AnyState, any_of, any_phase, any_rests, IsAtLast, IsMeant, AreDownOver, DeadAreReplicas, IsRunFrom, HaveGrown, and_parts, get_or-append_right, get_or-replicate, length-replicate, kind_at, kinds_of, WalksOn, phase_after, is_for_replica as is_replica, RunEntry, RowPath}
 use Rattle.site_run.proofs.Lists.{some_of}
-use Rattle.site_run.proofs.Words.{get_or_default, Begin, End, Stop, Entry, Phase, is_begin, is_in_turn, Idle, Busy, Bytes, Kind, PlanView, IsAired, phase, is_dead, Node, Dispatcher, Server, Replica, Joiner, Setting, IsNode, NumbersAreNodes, node_number, node_of, node_count, NodeDisk, NodeFault, Damaged, Spent, Rows, State, state_phase, phase_by, dispatcher_at_rest, joiner_at_rest, server_at_rest, Disks, UpWith, StateOf, rows_of, down_over, RestsAt, StatesRest, made_by, EachWalked, IsRunOf, AiredIsRun, Chosen, choose, StandsAt, LeadsOn, GrowsOn, Reached, Rests, AnyState, any_of, any_phase, any_rests, IsAtLast, IsMeant, AreDownOver, DeadAreReplicas, IsRunFrom, HaveGrown}
 use Rattle.site_run.proofs.Epochs.{comes_to_last}
-use Rattle.site_node.specs.States as states
-use Rattle.photon_model.specs.Runs as model
-use Rattle.site_run.specs.AnyNodes.{GoesOn}
 use Rattle.site_run.proofs.Walking.{phase_is, walked}
 use Rattle.site_node.specs.Paths.{phase_led}
-use Rattle.air_bus.specs.History.{phase_after}
+use Rattle.lossy_link.specs.declared.plan.Kind.TheVariants as kind
 
 down_phase : (g : Setting) (d : Disks) (n : Node) (m : ℕ) → any_phase (any_of n (down_over g d n)) ≡ phase m []
 down_phase g d n m = phase_is n (down_over g d n)
@@ -29,18 +26,18 @@ begun (Begin m b) is = refl
 begun (End m noted packets kept) is = absurd (cc is)
 begun (Stop m landed) is = absurd (cc is)
 
-open_by : {K L : Type 0} (rows : Rows K L) (was : Bool) (es : List Entry) (s t : State K L) → (was ≡ true → state_phase s ≡ Busy) → states.Path rows s es t → fold (λ before e. is_begin e) was es ≡ true → state_phase t ≡ Busy
+open_by : {K L : Type 0} (rows : Rows K L) (was : Bool) (es : List Entry) (s t : State K L) → (was ≡ true → state_phase s ≡ Busy) → RowPath rows s es t → fold (λ before e. is_begin e) was es ≡ true → state_phase t ≡ Busy
 open_by rows was [] s t busy path last = ap state_phase (sym path) ∙ busy last
 open_by rows was (e ∷ es) s t busy path last = open_by rows (is_begin e) es path.0 t (λ is. phase_led rows s path.0 e path.1 ∙ begun e is) path.2 last
 
-open_at : (g : Setting) (d : Disks) (n : Node) (u : StateOf n) (mine : List Entry) → states.Path (rows_of n) (down_over g d n) mine u → is_in_turn mine ≡ true → any_phase (any_of n u) ≡ Busy
+open_at : (g : Setting) (d : Disks) (n : Node) (u : StateOf n) (mine : List Entry) → RowPath (rows_of n) (down_over g d n) mine u → is_in_turn mine ≡ true → any_phase (any_of n u) ≡ Busy
 open_at g d n u mine path last = phase_is n u ∙ open_by (rows_of n) false mine (down_over g d n) u (λ e. absurd (cc e)) path last
 
 module _ {N S : Type 0} (leads : S → Entry → S → Type 0) (phase_of : S → Phase) (stands : N → S → Type 0) (number : N → ℕ) (at_rest_as : S → Bool → Type 0) (spends : S → Bytes → Option ℕ) (places : N → AnyState → Type 0)
-    (walks : (v : N) (u : AnyState) → places v u → GoesOn leads phase_of stands at_rest_as spends places v u) where
+    (walks : (v : N) (u : AnyState) → places v u → WalksOn leads phase_of stands at_rest_as spends places v u) where
   -- where a node that was down over its records stands at the end of its own entries
   pub record Ended (g : Setting) (d : Disks) (h : List Entry) (w : N × Option NodeFault) (n : Node) (u : StateOf n) : Type 0 where
-    pub path : states.Path (rows_of n) (down_over g d n) (made_by (node_number n) h) u
+    pub path : RowPath (rows_of n) (down_over g d n) (made_by (node_number n) h) u
     pub here : S
     pub at : stands w.0 here
     pub meant : IsMeant leads phase_of stands at_rest_as spends places here (any_of n u)
@@ -61,7 +58,7 @@ module _ {N S : Type 0} (leads : S → Entry → S → Type 0) (phase_of : S →
       let to = walked n (down_over g d n) from.0 on.0 on.1 in (
         to.0,
         record {
-          path = subst (λ es. states.Path (rows_of n) (down_over g d n) es to.0) (sym from.2) to.2;
+          path = subst (λ es. RowPath (rows_of n) (down_over g d n) es to.0) (sym from.2) to.2;
           here = from.1;
           at = from.4.at;
           meant = subst (IsMeant leads phase_of stands at_rest_as spends places from.1) to.1 on.2;
@@ -112,7 +109,7 @@ module _ {N S : Type 0} (leads : S → Entry → S → Type 0) (phase_of : S →
       no_others = λ m none. others m (omega (arith, ends g m none, count));
     }
 
-    whole : (es : List model.Entry) × IsRunOf g d h chosen.at es
+    whole : (es : List RunEntry) × IsRunOf g d h chosen.at es
     whole = law g d plan kinds h chosen.at aired all_walked
 
     -- a node that rests says so of its state in the system
@@ -136,7 +133,7 @@ module _ {N S : Type 0} (leads : S → Entry → S → Type 0) (phase_of : S →
     replica_rests (Replica k) u r is = tt
     replica_rests _ u r is = absurd (cc is)
 
-    no_turn : (n : Node) (u : StateOf n) (mine : List Entry) → states.Path (rows_of n) (down_over g d n) mine u → mine ≡ [] → any_phase (any_of n u) ≢ Busy
+    no_turn : (n : Node) (u : StateOf n) (mine : List Entry) → RowPath (rows_of n) (down_over g d n) mine u → mine ≡ [] → any_phase (any_of n u) ≢ Busy
     no_turn n u [] path none busy = absurd (cc (sym (down_phase g d n 0) ∙ ap (λ x. any_phase (any_of n x)) path ∙ busy))
     no_turn n u (e ∷ es) path none busy = absurd (cc none)
 
@@ -175,3 +172,24 @@ module _ {N S : Type 0} (leads : S → Entry → S → Type 0) (phase_of : S →
           closed = λ r n is. (rest_of r n is (gone n) refl).1;
           still = λ r n is last. (rest_of r n is (gone n) refl).1 (open_at g d n (chosen.at n) (made_by (node_number n) h) (chosen.holds n is).path last);
         }
+
+-- how many nodes there are
+pub kinds_count : (joiners replicas : ℕ) (kinds : List Kind) → kinds ≡ kinds_of joiners replicas → length kinds ≡ 4 + replicas + 2 * joiners
+kinds_count joiners replicas kinds are = omega (arith, ap length are, length-append (kind.Dispatcher ∷ kind.Dispatcher ∷ kind.Server ∷ kind.Server ∷ [] ++ replicate replicas kind.Replica) (replicate (2 * joiners) kind.Joiner), length-append (kind.Dispatcher ∷ kind.Dispatcher ∷ kind.Server ∷ kind.Server ∷ []) (replicate replicas kind.Replica), length-replicate replicas kind.Replica, length-replicate (2 * joiners) kind.Joiner)
+
+-- joiners are behind the replicas
+are_joiners : (joiners replicas i : ℕ) → 4 + replicas ≤ i → i < 4 + replicas + 2 * joiners → kind_at (kinds_of joiners replicas) i ≡ kind.Joiner
+are_joiners joiners replicas i low high =
+    get_or-append_right (kind.Dispatcher ∷ kind.Dispatcher ∷ kind.Server ∷ kind.Server ∷ replicate replicas kind.Replica) (replicate (2 * joiners) kind.Joiner) (4 + replicas) i kind.Dispatcher (omega (arith, length-replicate replicas kind.Replica)) low
+    ∙ get_or-replicate (2 * joiners) (i - (4 + replicas)) kind.Joiner kind.Dispatcher (omega (arith, low, high))
+
+is_one : (g : Setting) (n : Node) → IsNode g n → is_replica (kind_at (kinds_of g.config.joiners g.config.replicas) (node_number n)) ≡ true → (r : ℕ) × (n ≡ Replica r)
+is_one g (Dispatcher (suc (suc s))) is at = absurd (omega (arith, is))
+is_one g (Server (suc (suc s))) is at = absurd (omega (arith, is))
+is_one g (Replica r) is at = (r, refl)
+is_one g (Joiner j) is at = absurd (cc (sym (ap is_replica (are_joiners g.config.joiners g.config.replicas j is.0 is.1)) ∙ at))
+is_one g _ is at = absurd (cc at)
+
+-- whoever is dead is a replica
+pub dead_replicas : (g : Setting) (plan : PlanView) (kinds : List Kind) → kinds ≡ kinds_of g.config.joiners g.config.replicas → DeadAreReplicas g plan kinds
+dead_replicas g plan kinds are n is gone = is_one g n is (subst (λ ks. is_replica (kind_at ks (node_number n)) ≡ true) are (and_parts _ _ gone).1)

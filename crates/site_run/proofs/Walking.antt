@@ -1,77 +1,39 @@
 -- What leads a node of any kind on leads the node of the system on.
-use Rattle.std.proofs.Common.{◌≡◌, inl, inr, ⊎_elim, ℕ, List, [], ◌∷◌, Option, Some, None, refl, sym, ap, ◌∙◌, subst, arith}
-use Rattle.site_run.proofs.Words.{Entry, Begin, End, Stop, Bytes, Node, Dispatcher, Server, Replica, Joiner, Input, Setting, Note, Out, land, IsNoted, State, Leads, IsDone, Ends, row, row_of, written, closes, opens, DispatcherState, SiteLeads, ServerKept, ServerLive, land_server, SiteKept, ServerState, JoinerState, LeadsTo, JoinerKept, JoinerLive, DispatcherKept, DispatcherLive, StateOf, rows_of, server_rows, Path, AnyState, AnyLeads, any_of, any_phase, state_phase, with_site}
-use Rattle.site_node.specs.States as states
-use Rattle.registry_server.specs.Registrars as registrars
+use Rattle.std.proofs.Common.{◌≡◌, inl, inr, ℕ, List, [], ◌∷◌, Option, Some, None, refl, sym, ap, subst, arith}
+use Rattle.site_run.proofs.Words.{Entry, Bytes, Node, Dispatcher, Server, Replica, Joiner, Input, Setting, Note, land, State, Leads, MayHold, Numbered, Rows, row_of, StateOf, rows_of, dispatcher_rows, joiner_rows, numbered, server_rows, with_number, Path, AnyState, AnyLeads, any_of, any_phase, state_phase, RowPath}
 
--- ---- a server, whose records carry its site
+-- ---- a node that carries its number, and one that doesn't
 
-lands_so : (s : ℕ) (k : ServerKept) (o : Option Note) → land registrars.server_rows.lands o (record { site = s; disk = k }) ≡ record { site = s; disk = land land_server o k }
-lands_so s k None = refl
-lands_so s k (Some n) = refl
+-- the state without the number
+abbrev pub bare : {K L : Type 0} → State (Numbered K) L → State K L
+bare u = record { setting = u.setting; kept = u.kept.disk; live = u.live; opened = u.opened }
 
-pub row_so : (s : ℕ) (g : Setting) (k : ServerKept) (live : Option ServerLive) (i : Input) → row_of registrars.server_rows g (record { site = s; disk = k }) live i ≡ row_of (server_rows s) g k live i
-row_so s g k None i = refl
-row_so s g k (Some l) i = refl
+module _ {K L : Type 0} (rows : ℕ → Rows K L) (n : ℕ) where
+  row_so : (g : Setting) (k : K) (live : Option L) (i : Input) → row_of (numbered rows) g (record { number = n; disk = k }) live i ≡ row_of (rows n) g k live i
+  row_so g k None i = refl
+  row_so g k (Some l) i = refl
 
-module _ (s : ℕ) (t : State ServerKept ServerLive) where
-  abbrev there : ServerState
-  there = with_site s t
+  lands_so : (k : K) (o : Option Note) → land (numbered rows).lands o (record { number = n; disk = k }) ≡ record { number = n; disk = land (rows n).lands o k }
+  lands_so k None = refl
+  lands_so k (Some note) = refl
 
-  same_row : (i : Input) → row registrars.server_rows there i ≡ row (server_rows s) t i
-  same_row i = row_so s t.setting t.kept t.live i
+  module _ (t : State K L) where
+    pub led_so : (e : Entry) (u : State (Numbered K) L) → Leads (numbered rows) (with_number n t) e u → (u ≡ with_number n (bare u)) × Leads (rows n) t e (bare u)
+    led_so e u l = grind (arith, row_so, lands_so)
 
-  same_written : (i : Input) → written registrars.server_rows there i ≡ record { site = s; disk = written (server_rows s) t i }
-  same_written i = ap (λ (o : Out ServerLive). land registrars.server_rows.lands o.note there.kept) (same_row i) ∙ lands_so s t.kept (row (server_rows s) t i).note
-
-  abbrev Here : Entry → ServerState → Type 0
-  Here e u = (v : State ServerKept ServerLive) × (u ≡ with_site s v) × Leads (server_rows s) t e v
-
-  ends_done : (b : Bytes) (note : Option (List ℕ)) (ps : List (ℕ × List ℕ)) (u : ServerState) (i : Input) → IsDone registrars.server_rows there i note ps u → (v : State ServerKept ServerLive) × (u ≡ with_site s v) × IsDone (server_rows s) t i note ps v
-  ends_done b note ps u i d = grind (arith, same_written)
-
-  ends_so : (b : Bytes) (note : Option (List ℕ)) (ps : List (ℕ × List ℕ)) (u : ServerState) → Ends registrars.server_rows there b note ps u → (v : State ServerKept ServerLive) × (u ≡ with_site s v) × Ends (server_rows s) t b note ps v
-  ends_so b note ps u ends =
-      ⊎_elim (λ d. let r = ends_done b note ps u d.0 d.2 in (r.0, r.1, inl (d.0, d.1, r.2)))
-      (λ idle. (
-        closes t t.kept (Some idle.knows),
-        idle.state,
-        inr (record { junk = idle.junk; no_note = idle.no_note; no_packets = idle.no_packets; knows = idle.knows; up = idle.up; state = refl }),
-      ))
-      ends
-
-  pub one_server : (e : Entry) (u : ServerState) → Leads registrars.server_rows there e u → Here e u
-  one_server (Begin n b) u l = (opens t b, l.2, (l.0, l.1, refl))
-  one_server (End n note ps kept) u l = let r = ends_so l.0 note ps u l.3 in (r.0, r.1, (l.0, l.1, l.2, r.2))
-  one_server (Stop n landed) u l =
-      ⊎_elim (λ none. (closes t t.kept None, none.1, (l.0, l.1, inl (none.0, refl))))
-      (λ some.
-      let i = some.0 in (
-        closes t (written (server_rows s) t i) None,
-        some.3 ∙ ap (λ (k : SiteKept). closes there k None) (same_written i),
-        (l.0, l.1, inr (i, some.1, subst (λ (x : Out ServerLive). IsNoted x.note landed) (same_row i) some.2, refl)),
-      ))
-      l.2
+    pub may_hold_so : (k : Numbered K) → MayHold (numbered rows) (with_number n t) k → MayHold (rows n) t k.disk
+    may_hold_so k may = grind (arith, row_so, lands_so)
 
 -- ---- one entry of any kind of node
 
 abbrev Goes : (n : Node) → StateOf n → Entry → AnyState → Type 0
 Goes n t e u = (v : StateOf n) × (u ≡ any_of n v) × Leads (rows_of n) t e v
 
-of_dispatcher : (s : ℕ) (t : State DispatcherKept DispatcherLive) (e : Entry) (d : DispatcherState) → SiteLeads (record { site = s; node = t }) e d → Goes (Dispatcher s) t e (inl (inl d))
-of_dispatcher s t e d l = (d.node, ap (λ k. inl (inl (record { site = k; node = d.node }))) l.site, l.leads)
-
-of_server : (s : ℕ) (t : State ServerKept ServerLive) (e : Entry) (u : ServerState) → Leads registrars.server_rows (with_site s t) e u → Goes (Server s) t e (inl (inr u))
-of_server s t e u l = let r = one_server s t e u l in (r.0, ap (λ x. inl (inr x)) r.1, r.2)
-
-of_joiner : (j : ℕ) (t : State JoinerKept JoinerLive) (e : Entry) (u : JoinerState) → LeadsTo (record { number = j; node = t }) e u → Goes (Joiner j) t e (inr (inr u))
-of_joiner j t e u l = (u.node, ap (λ k. inr (inr (record { number = k; node = u.node }))) l.number, l.leads)
-
 pub one : (n : Node) (t : StateOf n) (e : Entry) (u : AnyState) → AnyLeads (any_of n t) e u → Goes n t e u
-one (Dispatcher s) t e (inl (inl d)) l = of_dispatcher s t e d l
-one (Server s) t e (inl (inr d)) l = of_server s t e d l
-one (Replica r) t e (inr (inl d)) l = (d, refl, l)
-one (Joiner j) t e (inr (inr d)) l = of_joiner j t e d l
+one (Dispatcher s) t e (inl (inl u)) l = let so = led_so dispatcher_rows s t e u l in (bare u, ap (λ x. inl (inl x)) so.0, so.1)
+one (Server s) t e (inl (inr u)) l = let so = led_so server_rows s t e u l in (bare u, ap (λ x. inl (inr x)) so.0, so.1)
+one (Replica r) t e (inr (inl u)) l = (u, refl, l)
+one (Joiner j) t e (inr (inr u)) l = let so = led_so joiner_rows j t e u l in (bare u, ap (λ x. inr (inr x)) so.0, so.1)
 one _ t e _ l = absurd l
 
 -- a state stands on the bus by what it knows and what is open, as a state of a node of any kind too
@@ -81,7 +43,7 @@ phase_is _ t = refl
 
 -- ---- all entries of a node
 
-pub walked : (n : Node) (s : StateOf n) (es : List Entry) (t : AnyState) → Path AnyLeads (any_of n s) es t → (u : StateOf n) × (t ≡ any_of n u) × states.Path (rows_of n) s es u
+pub walked : (n : Node) (s : StateOf n) (es : List Entry) (t : AnyState) → Path AnyLeads (any_of n s) es t → (u : StateOf n) × (t ≡ any_of n u) × RowPath (rows_of n) s es u
 walked n s [] t p = (s, sym p, refl)
 walked n s (e ∷ es) t p =
     let m = one n s e p.0 p.1 in

@@ -1,50 +1,48 @@
 -- Nodes of all four kinds as one kind, and where they stand.
 use Rattle.std.proofs.Common.{◌≡◌, ◌⊎◌, inl, inr, ℕ, Bool, List, Option, None, Some}
-use Rattle.site_run.specs.Terms.{Begin, Dispatcher, Input, Joiner, JoinerState, LAST_EPOCH, Leads, LeadsTo, Node, Path, Replica, ReplicaState, Says, Server, ServerState, Setting, Start, State, StateOf, joiner_phase, replica_rows, server_rows, spends_of, spent_at, state_phase}
-use Rattle.air_bus.specs.declared.entry.Entry.{Entry}
+use Rattle.site_run.specs.Terms.{Begin, BusEntry as Entry, Dispatcher, Input, Joiner, LAST_EPOCH, Leads, Node, Numbered, Path, Replica, ReplicaState, Says, Server, Start, State, StateOf, dispatcher_rows, joiner_rows, numbered, replica_rows, server_rows, spends_at, spent_epoch, state_phase, with_number}
 use Rattle.air_bus.specs.declared.entry.Phase.{Phase}
-use Rattle.turn_defs.specs.Dispatcher.{dispatcher_at_rest}
-use Rattle.turn_defs.specs.Joiner.{joiner_at_rest}
-use Rattle.dispatch_node.specs.Node as dispatcher
-use Rattle.dispatch_node.specs.Node.{DispatcherState, SiteLeads, says}
+use Rattle.turn_defs.specs.Dispatcher.{DispatcherKept, DispatcherLive, dispatcher_at_rest}
+use Rattle.turn_defs.specs.Joiner.{JoinerKept, JoinerLive, joiner_at_rest}
 use Rattle.turn_defs.specs.Server.{ServerKept, ServerLive, server_at_rest}
 use Rattle.turn_defs.specs.Replica.{replica_at_rest}
-use Rattle.replica_node.specs.Node as replica
 use Rattle.site_workers.specs.FourKinds as one
+
+-- what a node of each kind stands at, with the number by which its rows know it
+abbrev pub DispatcherState : Type 0
+DispatcherState = State (Numbered DispatcherKept) DispatcherLive
+
+abbrev pub ServerState : Type 0
+ServerState = State (Numbered ServerKept) ServerLive
+
+abbrev pub JoinerState : Type 0
+JoinerState = State (Numbered JoinerKept) JoinerLive
 
 abbrev pub AnyState : Type 0
 AnyState = (DispatcherState ⊎ ServerState) ⊎ (ReplicaState ⊎ JoinerState)
 
 -- an entry leads a node of its kind on
 abbrev pub AnyLeads : AnyState → Entry → AnyState → Type 0
-AnyLeads = one.leads (one.leads SiteLeads (Leads server_rows)) (one.leads (Leads replica_rows) LeadsTo)
+AnyLeads = one.leads (one.leads (Leads (numbered dispatcher_rows)) (Leads (numbered server_rows))) (one.leads (Leads replica_rows) (Leads (numbered joiner_rows)))
 
 -- where a state stands on the bus
 abbrev pub any_phase : AnyState → Phase
-any_phase = one.of (one.of (λ s. state_phase s.node) state_phase) (one.of state_phase joiner_phase)
+any_phase = one.of (one.of state_phase state_phase) (one.of state_phase state_phase)
 
 -- what a node says of its rest
 abbrev pub any_rests : AnyState → Bool → Type 0
-any_rests = one.says (one.says (says dispatcher_at_rest) (Says (λ g k l. server_at_rest g l))) (one.says (Says (λ g k l. replica_at_rest k)) (λ s. Says (λ g k l. joiner_at_rest l) s.node))
-
--- a server's state, with its site
-abbrev pub with_site : ℕ → State ServerKept ServerLive → ServerState
-with_site s t = record { setting = t.setting; kept = record { site = s; disk = t.kept }; live = t.live; opened = t.opened }
+any_rests = one.says (one.says (Says (λ g k l. dispatcher_at_rest l)) (Says (λ g k l. server_at_rest g l))) (one.says (Says (λ g k l. replica_at_rest k)) (Says (λ g k l. joiner_at_rest l)))
 
 -- where a node of the system stands, as a state of a node of any kind
 abbrev pub any_of : (n : Node) → StateOf n → AnyState
-any_of (Dispatcher s) t = inl (inl (record { site = s; node = t }))
-any_of (Server s) t = inl (inr (with_site s t))
+any_of (Dispatcher s) t = inl (inl (with_number s t))
+any_of (Server s) t = inl (inr (with_number s t))
 any_of (Replica r) t = inr (inl t)
-any_of (Joiner j) t = inr (inr (record { number = j; node = t }))
-
--- down, over these records
-abbrev pub down_with : {K L : Type 0} → Setting → K → State K L
-down_with g k = record { setting = g; kept = k; live = None; opened = None }
+any_of (Joiner j) t = inr (inr (with_number j t))
 
 -- the epoch that a start would raise, where it is the last one
 abbrev pub any_spends : AnyState → Input → Option ℕ
-any_spends = one.of (one.of dispatcher.never_spent spent_at) (one.of replica.never_spent spends_of)
+any_spends = one.of (one.of (spends_at (λ k. None)) (spends_at (λ k. spent_epoch k.disk.epoch))) (one.of (spends_at (λ k. None)) (spends_at (λ k. spent_epoch k.disk.epoch)))
 
 -- a node with this open turn starts, and what its disk keeps is this epoch, the last
 pub record StartsAt {L : Type 0} (opened : Option Input) (live : Option L) (kept epoch : ℕ) : Type 0 where
@@ -57,7 +55,7 @@ abbrev pub IsAtLast : AnyState → ℕ → Type 0
 IsAtLast (inl (inl d)) epoch = ⊥
 IsAtLast (inl (inr s)) epoch = StartsAt s.opened s.live s.kept.disk.epoch epoch
 IsAtLast (inr (inl r)) epoch = ⊥
-IsAtLast (inr (inr j)) epoch = StartsAt j.node.opened j.node.live j.node.kept.epoch epoch
+IsAtLast (inr (inr j)) epoch = StartsAt j.opened j.live j.kept.disk.epoch epoch
 
 -- ---- a kind of node that stands at such states
 

@@ -1,7 +1,6 @@
 -- Why a run gives up.
 use Rattle.std.specs.Prelude.{◌≡◌, ℕ, ◌+◌, ◌-◌, nat_lt, if◌then◌else◌, List, Bool, true, IsTrue}
-use Rattle.site_run.specs.Terms.{Clicks, Config, DiskName, First, IsOfDisk, IsOfOne, Lent, LogName, Mem, NodeDisk, NodeFault, Queries, RunFault, damaged_by, is_read}
-use Rattle.outside.specs.declared.store.DiskName.TheVariants as name
+use Rattle.site_run.specs.Terms.{Clicks, Config, DiskName, EpochDisk, First, IsOfDisk, IsOfOne, Lent, LogName, Mem, NodeDisk, NodeFault, OffsetDisk, OutputDisk, Queries, ReplicaDisk, RetryDisk, RunFault, ServerDisk, damaged_by, is_read}
 use Rattle.run_fault.specs.declared.fault.StorePlace.TheVariants as place
 use Rattle.run_fault.specs.declared.fault.RunFault.TheVariants as fault
 use Rattle.site_node.specs.Faults.{of_two}
@@ -15,13 +14,13 @@ abbrev pub log_of : ℕ → LogName
 log_of number = if nat_lt number 2 then Clicks else Queries
 
 abbrev pub joiner_disk : Config → ℕ → NodeDisk → DiskName
-joiner_disk config number disk = of_two (name.Epoch (site_of config number) (joiner_of config number)) (name.Output (site_of config number) (joiner_of config number)) disk
+joiner_disk config number disk = of_two (EpochDisk (site_of config number) (joiner_of config number)) (OutputDisk (site_of config number) (joiner_of config number)) disk
 
 abbrev pub disk_of : Config → ℕ → NodeDisk → DiskName
 disk_of config number disk =
-    if nat_lt number 2 then of_two (name.Offset number) (name.Retry number) disk
-    else if nat_lt number 4 then name.Server (number - 2)
-    else if nat_lt number (4 + config.replicas) then name.Replica (number - 4)
+    if nat_lt number 2 then of_two (OffsetDisk number) (RetryDisk number) disk
+    else if nat_lt number 4 then ServerDisk (number - 2)
+    else if nat_lt number (4 + config.replicas) then ReplicaDisk (number - 4)
     else joiner_disk config number disk
 
 -- of the node of a number

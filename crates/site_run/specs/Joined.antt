@@ -1,6 +1,6 @@
 -- What a join of both sites over a store comes to, once all nodes rest.
 use Rattle.std.specs.Prelude.{◌≡◌, ◌⊎◌, ℕ, ◌<◌, ◌≤◌, List, [], map, Some}
-use Rattle.site_run.specs.Terms.{AreLeft, ClickLine, DiskName, Disks, Entry, Images, IsAtRest, IsDisk, IsRunOf, KeepsOf, Mem, Node, ReportLine, Setting, StateOf, Store, disks, opening, shard, shards, world_after}
+use Rattle.site_run.specs.Terms.{AreLeft, BusEntry, ClickLine, DiskName, Disks, Entry, Images, IsAtRest, IsDisk, IsRunOf, KeepsOf, Mem, Node, ReportLine, Setting, StateOf, Store, disks, opening, shard, shards, world_after}
 use Rattle.event_id.specs.declared.id.EventId.{EventId}
 use Rattle.registry_state.specs.declared.Token.{Token}
 use Rattle.registry_state.specs.declared.Batch.{Batch}
@@ -14,7 +14,6 @@ use Rattle.photon_model.specs.Report.{report}
 use Rattle.photon_model.specs.Sound.{IsDrained, IsMissing, accepted_inserts, known_of}
 use Rattle.photon_model.specs.Exact.{IsExact}
 use Rattle.photon_model.specs.Stores.{empty_disks}
-use Rattle.air_bus.specs.declared.entry.Entry.{Entry as BusEntry}
 use Rattle.site_run.specs.Laws.{JoinerStopped}
 
 -- the batches that the replicas' records decide in a shard

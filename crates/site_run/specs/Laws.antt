@@ -1,9 +1,7 @@
 -- Laws on the disks of all nodes of a setting.
 use Rattle.std.specs.Prelude.{◌≡◌, ◌≢◌, ℕ, ◌≤◌, List, ◌∷◌, length, slice_index_or, None, Some, true}
 use Rattle.std.specs.List.{list_any}
-use Rattle.site_run.specs.Terms.{Config, DiskName, Disks, Entry, Images, IsDisk, IsJoiner, IsNode, IsOfOne, IsRunOf, KeepsTopology, Lent, Mem, NoJoinerStops, Node, NodeDisk, Reached, Setting, StateOf, is_stop, made_by, node_count, node_number, topology_of}
-use Rattle.outside.specs.declared.store.DiskName.TheVariants as name
-use Rattle.air_bus.specs.declared.entry.Entry.{Entry as BusEntry}
+use Rattle.site_run.specs.Terms.{BusEntry, Config, DiskName, Disks, Entry, Images, IsDisk, IsJoiner, IsNode, IsOfOne, IsRunOf, KeepsTopology, Lent, Mem, NoJoinerStops, Node, NodeDisk, Reached, Setting, StateOf, TopologyDisk, is_stop, made_by, node_count, node_number, topology_of}
 use Rattle.site_node.specs.declared.kind.SiteNode.{Ghosts}
 use Rattle.site_run.specs.AnyNodes.{AnyState, any_of}
 use Rattle.site_run.specs.Held.{HoldsAs, HaveGoneOn}
@@ -21,7 +19,7 @@ IsLeftBy image g topology held left = (disk : DiskName) → IsDisk g disk → (c
 
 -- the topology's disk has its name, and keeps the setting's record whatever a stop leaves of it
 pub record KeepsItsRecord {D : Type 0} (image : D → List ℕ → Type 0) (g : Setting) (topology : Lent D) : Type 0 where
-  pub named : topology.name ≡ name.Topology
+  pub named : topology.name ≡ TopologyDisk
   pub keeps : (c : List ℕ) → image topology.disk c → KeepsTopology (Some (topology_of g)) c
 
 -- no joiner's entries have a stop

@@ -1,7 +1,6 @@
 -- What a run over a store leaves, by what a stop might have left of each disk before it and may leave of it afterwards.
 use Rattle.std.specs.Prelude.{ℕ, List}
-use Rattle.site_run.specs.Terms.{AreKept, AreLeft, AreRecordsOf, DiskName, Disks, Entry, Images, IsAtRest, IsDisk, IsRunOf, Journals, KeepsOf, NoJoinerStops, Node, SameRecords, Setting, StateOf, Store, disks, opening, world_after}
-use Rattle.air_bus.specs.declared.entry.Entry.{Entry as BusEntry}
+use Rattle.site_run.specs.Terms.{AreKept, AreLeft, AreRecordsOf, BusEntry, DiskName, Disks, Entry, Images, IsAtRest, IsDisk, IsRunOf, Journals, KeepsOf, NoJoinerStops, Node, SameRecords, Setting, StateOf, Store, disks, opening, world_after}
 use Rattle.photon_model.specs.Verification.{AreOf}
 use Rattle.site_run.specs.declared.ran.RunLog.{RunLog}
 

@@ -1,8 +1,7 @@
 -- Nodes in the making: what those to come are made of.
 use Rattle.std.specs.Prelude.{◌≡◌, ◌<◌, ◌≤◌, ℕ, suc, ◌+◌, ◌-◌, ◌*◌, ◌++◌, Bool, IsTrue, Option, IfSome, List, [], length, map, vec_capacity}
 use Rattle.std.specs.List.Sorted.{IsPermutation}
-use Rattle.site_run.specs.Terms.{AreKeptPlaces, AreRecordsOf, Config, DiskName, Disks, IsRunnable, Lent, LentDisk, Mem, OpenView, Setting, kept_all, lent_all, option_or_else, other_names}
-use Rattle.outside.specs.declared.store.DiskName.TheVariants as name
+use Rattle.site_run.specs.Terms.{AreKeptPlaces, AreRecordsOf, Config, DiskName, Disks, EpochDisk, IsRunnable, Lent, LentDisk, Mem, OffsetDisk, OpenView, OutputDisk, ReplicaDisk, RetryDisk, ServerDisk, Setting, TopologyDisk, kept_all, lent_all, option_or_else, other_names}
 use Rattle.outside.specs.declared.disk.Disk as disk
 use Rattle.outside.specs.declared.log.LogFile as log
 use Rattle.site_run.specs.Asked.{AreLogsOf}
@@ -34,13 +33,13 @@ pub record IsStart {D L : Type 0} (bytes : L → List ℕ) (clicks queries : Lis
 
 -- the number of the node that has the disk of this name
 abbrev pub number_of : Config → DiskName → ℕ
-number_of config name.Topology = 0
-number_of config (name.Offset s) = s
-number_of config (name.Retry s) = s
-number_of config (name.Server s) = 2 + s
-number_of config (name.Replica r) = 4 + r
-number_of config (name.Epoch s j) = 4 + config.replicas + s * config.joiners + j
-number_of config (name.Output s j) = 4 + config.replicas + s * config.joiners + j
+number_of config TopologyDisk = 0
+number_of config (OffsetDisk s) = s
+number_of config (RetryDisk s) = s
+number_of config (ServerDisk s) = 2 + s
+number_of config (ReplicaDisk r) = 4 + r
+number_of config (EpochDisk s j) = 4 + config.replicas + s * config.joiners + j
+number_of config (OutputDisk s j) = 4 + config.replicas + s * config.joiners + j
 
 -- how many disks and logs the nodes from this number on have
 abbrev pub disks_from : Config → ℕ → ℕ

@@ -3,9 +3,8 @@
 use Rattle.std.specs.Prelude.{◌≡◌, List, map}
 use Rattle.time_shards.specs.Shards.{IsTable}
 use Rattle.log_records.specs.declared.records.ClickRec.{ClickRec as Click}
-use Rattle.site_run.specs.Terms.{Checked, ClickLine, Images, IsSoundStore, Journals, ReportLine, Setting}
+use Rattle.site_run.specs.Terms.{BusEntry, Checked, ClickLine, Images, IsSoundStore, Journals, ReportLine, Setting}
 use Rattle.log_records.specs.Report.{distinct}
-use Rattle.air_bus.specs.declared.entry.Entry.{Entry as BusEntry}
 use Rattle.verify_pass.specs.Classes.{line_of}
 use Rattle.site_laws.specs.StoreLaws.{LeavesNothing}
 use Rattle.site_run.specs.Left.{RestLeft}

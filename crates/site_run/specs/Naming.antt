@@ -1,7 +1,8 @@
 -- The disks of nodes, under their names.
 use Rattle.std.specs.Prelude.{◌≡◌, ℕ, suc, ◌+◌, ◌-◌, ◌*◌, nat_lt, if◌then◌else◌, List, [], ◌∷◌, ◌++◌, Option, None, Some}
-use Rattle.site_run.specs.Terms.{Clicks, Config, DiskName, Dispatcher, Joiner, Lent, LentDisk, LogName, Node, Queries, Replica, Server}
-use Rattle.outside.specs.declared.store.DiskName.TheVariants as name
+use Rattle.site_run.specs.Terms.{Clicks, Config, DiskName, Dispatcher, EpochDisk, Joiner, Lent, LentDisk, LogName, Node, OffsetDisk, OutputDisk, Queries, Replica, ReplicaDisk, RetryDisk, Server, ServerDisk}
+use Rattle.site_workers.specs.FourKinds as one
+use Rattle.site_workers.specs.declared.one_of.OneOf.{OneOf}
 
 abbrev pub as_lent : {D : Type 0} → LentDisk D → Lent D
 as_lent d = record { name = d.name; disk = d.disk }
@@ -22,10 +23,10 @@ joiner_of config number = if nat_lt (place_of config number) config.joiners then
 
 -- the names of a node's disks
 abbrev pub names_of : Config → Node → List DiskName
-names_of config (Dispatcher s) = name.Offset s ∷ name.Retry s ∷ []
-names_of config (Server s) = name.Server s ∷ []
-names_of config (Replica r) = name.Replica r ∷ []
-names_of config (Joiner j) = name.Epoch (site_of config j) (joiner_of config j) ∷ name.Output (site_of config j) (joiner_of config j) ∷ []
+names_of config (Dispatcher s) = OffsetDisk s ∷ RetryDisk s ∷ []
+names_of config (Server s) = ServerDisk s ∷ []
+names_of config (Replica r) = ReplicaDisk r ∷ []
+names_of config (Joiner j) = EpochDisk (site_of config j) (joiner_of config j) ∷ OutputDisk (site_of config j) (joiner_of config j) ∷ []
 
 -- the log that a node reads
 abbrev pub log_read : Node → Option LogName
@@ -33,18 +34,21 @@ log_read (Dispatcher s) = Some Clicks
 log_read (Joiner j) = Some Queries
 log_read _ = None
 
--- the disks of a node of each kind under the names of its number
-abbrev pub of_dispatcher : {D : Type 0} → ℕ → (offset retry : D) → List (Lent D)
-of_dispatcher number offset retry = record { name = name.Offset number; disk = offset } ∷ record { name = name.Retry number; disk = retry } ∷ []
+-- the disks that a node of each kind has
+pub record DisksIn (D A B C E : Type 0) : Type 0 where
+  pub offset : A → D
+  pub retry : A → D
+  pub server : B → D
+  pub replica : C → D
+  pub epochs : E → D
+  pub outputs : E → D
 
-abbrev pub of_server : {D : Type 0} → ℕ → D → List (Lent D)
-of_server number disk = record { name = name.Server (number - 2); disk = disk } ∷ []
-
-abbrev pub of_replica : {D : Type 0} → ℕ → D → List (Lent D)
-of_replica number disk = record { name = name.Replica (number - 4); disk = disk } ∷ []
-
-abbrev pub of_joiner : {D : Type 0} → Config → ℕ → (epochs outputs : D) → List (Lent D)
-of_joiner config number epochs outputs = record { name = name.Epoch (site_of config number) (joiner_of config number); disk = epochs } ∷ record { name = name.Output (site_of config number) (joiner_of config number); disk = outputs } ∷ []
+-- they under the names that the node's number gives them
+abbrev pub disks_by : {D A B C E : Type 0} → DisksIn D A B C E → Config → ℕ → OneOf A B C E → List (Lent D)
+disks_by own config number =
+    one.by (λ v. record { name = OffsetDisk number; disk = own.offset v } ∷ record { name = RetryDisk number; disk = own.retry v } ∷ []) (λ v. record { name = ServerDisk (number - 2); disk = own.server v } ∷ [])
+    (λ v. record { name = ReplicaDisk (number - 4); disk = own.replica v } ∷ [])
+    (λ v. record { name = EpochDisk (site_of config number) (joiner_of config number); disk = own.epochs v } ∷ record { name = OutputDisk (site_of config number) (joiner_of config number); disk = own.outputs v } ∷ [])
 
 -- what each of these has by its place, the first of which is this
 abbrev pub all_from : {N X : Type 0} → (ℕ → N → List X) → ℕ → List N → List X

@@ -1,7 +1,6 @@
 -- How a run for a setting ends over a store.
 use Rattle.std.specs.Prelude.{◌≡◌, ◌≢◌, ℕ, List, Option, None, Result, IfErr, IfOk, IfSome, IsSomeAnd, OnOk}
-use Rattle.site_run.specs.Terms.{DiskName, Disks, GoesOn, Images, IsSoundStore, IsWelcome, LeavesSomething, Lent, RunFault, SameRecords, Setting, StaysAs}
-use Rattle.outside.specs.declared.store.DiskName.TheVariants as name
+use Rattle.site_run.specs.Terms.{DiskName, Disks, GoesOn, Images, IsSoundStore, IsWelcome, LeavesSomething, Lent, RunFault, SameRecords, Setting, StaysAs, TopologyDisk}
 use Rattle.site_run.specs.declared.ran.Outcome.{Outcome}
 use Rattle.site_run.specs.declared.ran.RunLog.{RunLog}
 use Rattle.site_run.specs.Left.{HasRested, HasRun, RestLeft, RunLeft}
@@ -15,7 +14,7 @@ pub record Keeps (g h : Setting) (before after : Images) : Type 0 where
 
 -- where nothing is left of a run, each disk but the topology's stands for what it stood for
 abbrev pub IsIdle : (before after : Images) → Option RunLog → Type 0
-IsIdle before after ran = ran ≡ None → (disk : DiskName) → disk ≢ name.Topology → StaysAs (before disk) (after disk)
+IsIdle before after ran = ran ≡ None → (disk : DiskName) → disk ≢ TopologyDisk → StaysAs (before disk) (after disk)
 
 -- Before and after say what a stop might have left of the store's disks and may leave of them now; read and faulted that the count
 -- of the logs' faults rose and that of the disks'.

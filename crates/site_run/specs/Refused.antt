@@ -1,8 +1,6 @@
 -- Why a run over a store gives up, by what a stop might have left of its disks before it.
 use Rattle.std.specs.Prelude.{◌≡◌, ◌⊎◌, ℕ, ◌+◌, ◌≤◌, List, ◌∷◌, true, Option, None, Some, IsSomeAnd, ⊤}
-use Rattle.site_run.specs.Terms.{DiskName, Disks, First, HasCause, Images, IsDisk, IsJournalOf, IsKeptIn, IsNode, KeptDisk, KeptValues, LAST_EPOCH, Mem, Node, RunFault, Setting, is_in_turn, is_read, joiners_kept, made_by, node_number, other_names, stop_count}
-use Rattle.outside.specs.declared.store.DiskName.TheVariants as name
-use Rattle.air_bus.specs.declared.entry.Entry.{Entry as BusEntry}
+use Rattle.site_run.specs.Terms.{BusEntry, DiskName, Disks, First, HasCause, Images, IsDisk, IsJournalOf, IsKeptIn, IsNode, KeptDisk, KeptValues, LAST_EPOCH, Mem, Node, RunFault, Setting, TopologyDisk, is_in_turn, is_read, joiners_kept, made_by, node_number, other_names, stop_count}
 use Rattle.epoch_journal.specs.Epochs.{Keeps as KeepsEpoch}
 use Rattle.topology_journal.specs.declared.topology.Topology.{Topology}
 use Rattle.topology_journal.specs.Topologies.{Keeps as KeepsTopology}
@@ -57,7 +55,7 @@ module _ (g : Setting) (before : Images) where
 
   -- the disk is opened, with whatever number of joiners the topology's may have kept
   abbrev pub IsTaken : DiskName → Type 0
-  IsTaken disk = (kept : Option Topology) → IsKeptIn (before name.Topology) (KeepsTopology kept) → Mem disk (name.Topology ∷ other_names (joiners_kept kept g.config.joiners) g.config.replicas)
+  IsTaken disk = (kept : Option Topology) → IsKeptIn (before TopologyDisk) (KeepsTopology kept) → Mem disk (TopologyDisk ∷ other_names (joiners_kept kept g.config.joiners) g.config.replicas)
 
   -- a stop might have left a journal of its kind
   abbrev pub WasJournal : DiskName → Type 0

@@ -1,7 +1,6 @@
 -- What a run of both sites' nodes is from, and what it leaves.
 use Rattle.std.specs.Prelude.{◌≡◌, ◌≢◌, ℕ, ◌+◌, ◌≤◌, Bool, true, List, [], ◌∷◌, ◌++◌, slice_index_or, Option, Some, IsTrue}
-use Rattle.site_run.specs.Terms.{Begin, Disks, Dispatcher, Entry, IsAtRest, IsNode, IsRunOf, Joiner, Kind, LAST_EPOCH, Node, NodeDisk, NodeFault, PlanView, Reached, Replica, Server, Setting, Start, StateOf, down_over, is_in_turn, made_by, node_number, opening, stop_count, world_after}
-use Rattle.air_bus.specs.declared.entry.Entry.{Entry as BusEntry}
+use Rattle.site_run.specs.Terms.{Begin, BusEntry, Disks, Dispatcher, Entry, IsAtRest, IsNode, IsRunOf, Joiner, Kind, LAST_EPOCH, Node, NodeDisk, NodeFault, PlanView, Reached, Replica, Server, Setting, Start, StateOf, down_over, is_in_turn, made_by, node_number, opening, stop_count, world_after}
 use Rattle.air_bus.specs.declared.entry.Phase.TheVariants.{Busy}
 use Rattle.air_bus.specs.Waiting.{is_dead}
 use Rattle.site_node.specs.declared.kind.NodeFault.TheVariants.{Damaged, Spent}

@@ -1,7 +1,6 @@
 -- What the end of a run makes of its nodes and disks.
 use Rattle.std.specs.Prelude.{◌≡◌, ◌≢◌, ℕ, suc, List, [], ◌∷◌, Bool, false, IsTrue, Option, None, Some, filter}
-use Rattle.site_run.specs.Terms.{Config, Each, EachWith, Lent, NodeFault, RunFault, is_output, is_replica, or_else}
-use Rattle.outside.specs.declared.store.DiskName.TheVariants as name
+use Rattle.site_run.specs.Terms.{Config, Each, EachWith, Lent, NodeFault, RunFault, TopologyDisk, is_output, is_replica, or_else}
 use Rattle.site_run.specs.Causes.{of_node}
 
 -- ---- the fault that is told: that of the first node which has one
@@ -26,7 +25,7 @@ lent_outputs disks = filter (λ d. is_output d.name) disks
 
 -- these disks are up, but for the topology's, which isn't read
 abbrev pub AreUp : {D : Type 0} → (D → Bool) → List (Lent D) → Type 0
-AreUp is_down disks = Each (λ l. l.name ≢ name.Topology → is_down l.disk ≡ false) disks
+AreUp is_down disks = Each (λ l. l.name ≢ TopologyDisk → is_down l.disk ≡ false) disks
 
 -- a list for each disk, in order: an image of the disk keeps it
 abbrev pub AreKeptIn : {D V : Type 0} → Bool → (D → List ℕ → Type 0) → (List V → List ℕ → Type 0) → List (Lent D) → List (List V) → Type 0

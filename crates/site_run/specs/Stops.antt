@@ -1,8 +1,7 @@
 -- The stops that are planned for the disks of a run's nodes, and those that its history has.
 use Rattle.std.specs.Prelude.{◌≡◌, ◌≢◌, ℕ, ◌+◌, ◌≤◌, List, [], ◌∷◌, Bool, false, Option, IfSome, Result, IfErr}
-use Rattle.site_run.specs.Terms.{Config, DiskName, Each, IsNode, Lent, Node, RunFault, Setting, StorePlace, made_by, node_number, stop_count}
+use Rattle.site_run.specs.Terms.{BusEntry, Config, DiskName, Each, IsNode, Lent, Node, RunFault, Setting, StorePlace, made_by, node_number, stop_count}
 use Rattle.outside.specs.Plans.{AtMost}
-use Rattle.air_bus.specs.declared.entry.Entry.{Entry as BusEntry}
 use Rattle.run_fault.specs.declared.fault.RunFault.TheVariants as fault
 use Rattle.site_run.specs.Naming.{names_of}
 use Rattle.site_run.specs.declared.ran.RunLog.{RunLog}

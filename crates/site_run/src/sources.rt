@@ -1,5 +1,5 @@
 // The logs of a run.
-ghost use Rattle.std.specs.Prelude.{◌≡◌, ◌⊎◌, ◌≤◌, ◌≢◌, List, ℕ, [], Some, length, vec_len, vec_capacity, IsTrue, IfOk, IfErr, OnOk, Err};
+ghost use Rattle.std.specs.Prelude.{◌≡◌, ◌⊎◌, ◌≤◌, List, ℕ, Some, length, IsTrue, IfOk, IfErr, Err};
 ghost use Rattle.site_run.specs.Terms.{Counts, Each, Mem, Rose};
 ghost use Rattle.site_run.specs.Logs.{IsOfLogs, name_of};
 ghost use Rattle.run_fault.specs.declared.fault.RunFault.TheVariants as fault;
@@ -44,32 +44,6 @@ pub fn open_log<F: Source>(
     }
 }
 
-// Opens one of the logs so many times, behind those that are open.
-fn open_behind<F: Source>(
-    alloc: Global,
-    files: &mut F,
-    names: &Names<'_>,
-    log: LogName,
-    times: u8,
-    logs: &mut Vec<F::Log>,
-) -> Result<(), RunFault>
-    requires empty { logs.old.items ≡ [] }
-    requires room { times ≤ vec_capacity logs.old }
-    ensures count { OnOk result (length logs.new.items ≡ times) }
-    ensures opened { IsTrue F.Log.tells → Each (λ l. F.bytes files.old (name_of names.now log) ≡ Some (F.Log.bytes l)) logs.new.items }
-    ensures same { IsTrue F.Log.tells → (n : List ℕ) → F.bytes files.new n ≡ F.bytes files.old n }
-    ensures cause { IfErr result (IsOfLogs (λ l. (l ≡ log) × Rose (F.faults files.old) (F.faults files.new))) }
-    ensures faults { F.faults files.old ≤ F.faults files.new }
-{
-    for _ in 0..times {
-        match open_log(alloc, files, names.of_log(log), log) {
-            Ok(opened) => logs.push_reserved(opened),
-            Err(fault) => return Err(fault),
-        }
-    }
-    Ok(())
-}
-
 // Opens one of the logs so many times. Where it isn't all are shut.
 fn open_times<F: Source>(
     alloc: Global,
@@ -87,13 +61,16 @@ fn open_times<F: Source>(
     let Ok(mut logs) = Vec::with_capacity(alloc, usize::from(times)) else {
         return Err(RunFault::Memory);
     };
-    match open_behind(alloc, files, names, log, times, &mut logs) {
-        Ok(()) => Ok(logs),
-        Err(fault) => {
-            shut_all(files, logs);
-            Err(fault)
+    for _ in 0..times {
+        match open_log(alloc, files, names.of_log(log), log) {
+            Ok(opened) => logs.push_reserved(opened),
+            Err(fault) => {
+                shut_all(files, logs);
+                return Err(fault);
+            }
         }
     }
+    Ok(logs)
 }
 
 /// Opens the click log for each site and the query log for each joiner. Where one isn't opened all are shut.

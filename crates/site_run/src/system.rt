@@ -13,7 +13,6 @@ ghost use Rattle.site_run.specs.Over.{NodesEnd};
 
 use crate::built::{Parting, Parts, apart};
 use crate::disk_laws::none_stops;
-use crate::nodes::SystemNode;
 use crate::settle::{give_parts, part_all, settle};
 use crate::{Config, Machine, Outcome, Ran, RunFault, RunLog};
 use air_bus::Trail;
@@ -41,7 +40,7 @@ pub(crate) fn run_system<F: Source, S: Store<Disk: Drop>, N>(
     parts: Parts<S::Disk, F::Log>,
 ) -> Result<Outcome, RunFault>
 where
-    N: SystemNode + Parting<S::Disk, F::Log> + Send + Drop,
+    N: Parting<S::Disk, F::Log> + Send + Drop,
     requires ranges { IsRunnable config.now }
     requires kinds { kinds.now ≡ kinds_of config.now.joiners config.now.replicas }
     requires count { length nodes.items ≡ count_of config.now }

@@ -71,13 +71,9 @@ unadded_cause tells before replicas row faulted k are f why = grind arith
 
 -- ---- the opened disks
 
-pub none_topology : {D : Type 0} (tells : Bool) (before : DiskName → List ℕ → Type 0) (replicas : ℕ) (kept : Option Topology) (disks : List (OpenView D)) → AreKept tells before replicas 0 (values_of kept disks) → Lacks (lent_all disks) name.Topology
-none_topology tells before replicas kept disks are = lacks_by_names name.Topology disks _ (sym (names_kept disks) ∙ are.named) (not_topology (joiners_kept kept 0) replicas)
-
 not_lacking : {D : Type 0} (disks : List (OpenView D)) (n : DiskName) → Mem n (map (λ o. o.name) disks) → Lacks (lent_all disks) n → ⊥
 not_lacking [] n m lacks = absurd m
-not_lacking (o ∷ os) n (inl e) lacks = lacks.0 e
-not_lacking (o ∷ os) n (inr m) lacks = not_lacking os n m lacks.1
+not_lacking (o ∷ os) n h lacks = grind (arith, not_lacking os n)
 
 module _ {D : Type 0} (left : D → List ℕ → Type 0) (mid after : DiskName → List ℕ → Type 0) (topology : Lent D) (disks : List (OpenView D)) (keep : Each (λ o. AllKept left o) disks)
     (give : (disk : DiskName) (c : List ℕ) → after disk c → MayBeLeft left mid (topology ∷ lent_all disks) disk c) (its_name : topology.name ≡ name.Topology) (read : ReadNotesAreKept) (g : Setting) (d : Disks) (says : AreRecordsOf g (kept_all disks) d) where
@@ -106,7 +102,7 @@ pub all_written : {D : Type 0} (tells : Bool) (left : D → List ℕ → Type 0)
     → (t : Topology) → IsLent left before mid (topology_lent old ∷ lent_all disks) → ((disk : DiskName) (c : List ℕ) → after disk c → MayBeLeft left mid (topology_lent new ∷ lent_all disks) disk c) → ((c : List ℕ) → left new c → IsWritten (left old) t c)
     → (c : List ℕ) → after name.Topology c → IsWritten (before name.Topology) t c
 all_written tells left before mid after kept old new disks replicas are t so give own c now =
-    let away = none_topology tells before replicas kept disks are in
+    let away = lacks_by_names name.Topology disks _ (sym (names_kept disks) ∙ are.named) (not_topology (joiners_kept kept 0) replicas) in
     written_through (before name.Topology) (left old) so.out.0 t c (own c (back_own left before mid (topology_lent old) (topology_lent new) (lent_all disks) so refl after give away c now))
 
 module _ {D : Type 0} (tells : Bool) (sure : IsTrue tells) (left : D → List ℕ → Type 0) (before mid after : DiskName → List ℕ → Type 0) (kept : Option Topology) (old new : D) (disks : List (OpenView D)) (replicas : ℕ) (are : AreKept tells before replicas 0 (values_of kept disks))

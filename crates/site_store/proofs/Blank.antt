@@ -1,6 +1,6 @@
 -- A sound store that keeps no topology keeps no records.
 use Rattle.std.proofs.Common.{◌≡◌, ℕ, List, [], ◌∷◌, map, length, Bool, IsTrue, true, false, Option, Some, None, refl, sym, ◌∙◌, ap, subst, arith, flat_map}
-use Rattle.site_store.proofs.Words.{Each, each_from, none_some, DiskName, ReplicaNote, note, gate_rule, Topology, Setting, KeepsNotes, vote_record, StoreTopology, Store, IsBlank, IsDisk, KeepsTopology, IsSoundStore, topology_read, KeepOneTopology, ReadTopologyIsKept, one_value, joiners_kept, Kept, KeptDisk, KeptValues, KeepsAs, IsOfKind, AreKept, other_names, LeavesSomething, KeptStore, notes_at, pairs_at, IsRead, KeepsNothing, values_from}
+use Rattle.site_store.proofs.Words.{Each, each_from, DiskName, ReplicaNote, note, gate_rule, Topology, Setting, KeepsNotes, vote_record, StoreTopology, Store, IsBlank, IsDisk, KeepsTopology, IsSoundStore, topology_read, KeepOneTopology, ReadTopologyIsKept, one_value, joiners_kept, Kept, KeptDisk, KeptValues, KeepsAs, IsOfKind, AreKept, other_names, LeavesSomething, KeptStore, notes_at, pairs_at, IsRead, KeepsNothing, values_from}
 use Rattle.outside.specs.declared.store.DiskName.TheVariants as name
 use Rattle.site_store.proofs.Lending.{each_mem}
 use Rattle.site_store.proofs.Names.{IsNamed, by_replicas, each_named, flat_none}
@@ -12,8 +12,7 @@ no_items f [] is = refl
 no_items f (x ∷ xs) is = absurd (omega (arith, ap length is))
 
 unused : (used : Bool) (kept : Option StoreTopology) (t : StoreTopology) → (used ≡ true → kept ≡ Some t) → kept ≡ None → used ≡ false
-unused false kept t h none = refl
-unused true kept t h none = absurd (none_some t (sym none ∙ h refl))
+unused k kept t h none = grind arith
 
 -- a replica's name has one list without notes, no other name has any
 abbrev blank_notes : DiskName → List (List ReplicaNote)
@@ -22,8 +21,7 @@ blank_notes other = []
 
 -- without joiners none is an output's
 no_pairs : (replicas : ℕ) (n : DiskName) (kept : Kept) → IsOfKind n kept → IsNamed 0 replicas n → pairs_at kept ≡ []
-no_pairs replicas (name.Output s j) kept (v, is) named = absurd (omega (arith, named.1))
-no_pairs replicas _ kept (v, is) named = ap pairs_at is
+no_pairs replicas h kept k named = grind arith
 
 module _ (tells : Bool) (sure : IsTrue tells) (image : DiskName → List ℕ → Type 0) (one : KeepOneTopology) (read_topology : ReadTopologyIsKept) (g : Setting) (some : LeavesSomething g image)
     (sound : IsSoundStore g image) (v : KeptValues) (kept : AreKept tells image g.config.replicas 0 v) (none : v.topology ≡ None) where

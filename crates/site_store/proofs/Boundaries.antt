@@ -73,12 +73,10 @@ module _ (log : List ℕ) (ls : List ClickLine) (h : HoldsLines log ls) where
       grind (arith, line_byte)
 
   feed_of : (q : ℕ) → 0 < q → IsBoundary ls q → IsBehindFeed log q
-  feed_of q some (inl none) = absurd (omega arith)
-  feed_of q some (inr (l, m, e)) = subst (IsBehindFeed log) e (end_feed l m)
+  feed_of q some h = grind (arith, end_feed)
 
   boundary_within : (q : ℕ) → IsBoundary ls q → q ≤ end_from 0 ls
-  boundary_within q (inl none) = omega arith
-  boundary_within q (inr (l, m, e)) = subst (λ p. p ≤ end_from 0 ls) e (ends_within ls 0 l follow m)
+  boundary_within q h = grind (arith, ends_within, follow)
 
   start_boundary : (q : ℕ) → IsStart ls q → IsBoundary ls q
   start_boundary q (l, is) = let (m, e) = at_mem ls q l is in subst (IsBoundary ls) e (place_boundary ls 0 l follow m)

@@ -1,6 +1,6 @@
 -- Why a store isn't opened, read or run over.
 use Rattle.std.proofs.Common.{◌≡◌, ◌≢◌, inl, inr, ⊎_elim, ℕ, ◌≤◌, List, [], ◌∷◌, Bool, Option, Some, None, arith, IfSome, IfNone, MatchOption}
-use Rattle.site_store.proofs.Words.{none_some, each_more, DiskName, Rose, added, Topology, IsKeptIn, LogName, Clicks, StorePlace, Misplaced, RunFault, IsFitFor, limit_at, or_else, limit_in, IsUnopened, IsFirstDisk, IsJournalOf, IsUnwritten, Kept, KeptDisk, KeptValues, KeepsAs, IsKept, AreKept, AreTold, ArePassed, HasCause, HasFailed, HasPassed, IsCause, IsUnfit, IsUnread, first_limit, joiners_asked}
+use Rattle.site_store.proofs.Words.{none_some, each_more, DiskName, Rose, added, Topology, IsKeptIn, LogName, Clicks, StorePlace, Misplaced, RunFault, IsFitFor, limit_at, or_else, limit_in, IsUnopened, IsFirstDisk, IsJournalOf, IsUnwritten, KeptDisk, KeptValues, KeepsAs, IsKept, AreKept, AreTold, ArePassed, HasCause, HasFailed, HasPassed, IsCause, IsUnfit, IsUnread, first_limit, joiners_asked}
 use Rattle.outside.specs.declared.store.DiskName.TheVariants as name
 use Rattle.run_fault.specs.declared.fault.StorePlace.TheVariants as place
 use Rattle.run_fault.specs.declared.fault.Mismatch.TheVariants as mismatch
@@ -42,17 +42,13 @@ unwritten_memory P f old new h other from = grind arith
 pub none_is : {A P : Type 0} (told : Option A) (Q : A → Type 0) → ((x : A) → told ≡ Some x → ⊥) → MatchOption told P Q → P
 none_is told Q not h = grind arith
 
--- a disk at its limit is told as such
-limit_at_is : (n : DiskName) (kept : Kept) (f : RunFault) → limit_at n kept ≡ Some f → (disk : DiskName) × (value : ℕ) × (f ≡ fault.Limit disk value)
-limit_at_is n kept f e = grind arith
-
 first_or_later : (P : Type 0) (one later : Option RunFault) (f : RunFault) → (one ≡ Some f → P) → (later ≡ Some f → P) → or_else one later ≡ Some f → P
 first_or_later P one later f here behind e = grind arith
 
 -- and nothing else is
 pub limit_is : (disks : List KeptDisk) (f : RunFault) → limit_in disks ≡ Some f → (disk : DiskName) × (value : ℕ) × (f ≡ fault.Limit disk value)
 limit_is [] f e = none_some f e
-limit_is (d ∷ ds) f e = first_or_later _ (limit_at d.name d.kept) (limit_in ds) f (limit_at_is d.name d.kept f) (limit_is ds f) e
+limit_is (d ∷ ds) f e = first_or_later _ (limit_at d.name d.kept) (limit_in ds) f (λ e. grind arith) (limit_is ds f) e
 
 module _ (tells : Bool) (log : List ℕ) (end_ : ℕ) (asked : Option Topology) (k : KeptValues) where
   -- what the limits tell

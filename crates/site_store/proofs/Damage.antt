@@ -1,6 +1,6 @@
 -- Of a sound store no disk is told as damaged.
 use Rattle.std.proofs.Common.{◌≡◌, ◌≢◌, inl, inr, ℕ, ◌≤◌, List, [], ◌∷◌, map, Bool, IsTrue, Option, Some, None, refl, sym, ◌∙◌, ap, subst, arith, All}
-use Rattle.site_store.proofs.Words.{All-nil, All-cons, Each, DiskName, StandsFor, Topology, Keeps, note, IsNote, Setting, BallotNote, ReplicaKept, IsVoted, vote_record, joiners_kept, damaged_by, IsDamagedIn, IsKeptIn, IsJournalOf, IsFirst, IsFirstDisk, other_names, KeepsNotes, IsUnwritten, RunFault, IsWelcome, PlainTopology, Store, Bytes, IsDisk, KeepsTopology, KeepsVotes, Holds, KeepSound, KeepsOf, IsSoundStore, ReadTopologyIsKept, TopologyFits, choose, LeavesSomething, Disks}
+use Rattle.site_store.proofs.Words.{All-nil, All-cons, Each, DiskName, StandsFor, Topology, Keeps, note, IsNote, Setting, BallotNote, ReplicaKept, IsVoted, vote_record, joiners_kept, damaged_by, IsDamagedIn, IsKeptIn, IsJournalOf, IsFirst, IsFirstDisk, other_names, KeepsNotes, IsUnwritten, RunFault, IsWelcome, PlainTopology, Bytes, IsDisk, KeepsTopology, KeepsVotes, KeepSound, KeepsOf, IsSoundStore, ReadTopologyIsKept, TopologyFits, choose, LeavesSomething, Disks}
 use Rattle.outside.specs.declared.store.DiskName.TheVariants as name
 use Rattle.site_laws.proofs.Keeping.{as_note, is_note, record_is}
 use Rattle.site_laws.proofs.Naming.{by_topology}
@@ -33,9 +33,6 @@ journal_of g d name.Topology other c keeps = absurd (other refl)
 journal_of g d (name.Replica r) other c keeps = (_, notes_kept (d.replicas r) c keeps)
 journal_of g d _ other c keeps = (_, keeps)
 
-journal_is : (g : Setting) (b : Bytes) (s : Store) → Holds g b s → (disk : DiskName) → IsDisk g disk → IsJournalOf disk (b disk)
-journal_is g b s holds = by_topology (λ disk. IsDisk g disk → IsJournalOf disk (b disk)) (λ here. (_, holds.topology)) (λ disk other here. journal_of g s.disks disk other (b disk) (holds.records disk here))
-
 -- what a stop may leave of one disk, and something of each other
 module _ (g : Setting) (image : DiskName → List ℕ → Type 0) (some : LeavesSomething g image) (sound : IsSoundStore g image) (disk : DiskName) (here : IsDisk g disk) (c : List ℕ) (now : image disk c) where
   one_each : (other : DiskName) → IsDisk g other → (b : List ℕ) × (image other b × (other ≡ disk → b ≡ c))
@@ -51,7 +48,7 @@ module _ (g : Setting) (image : DiskName → List ℕ → Type 0) (some : Leaves
   chosen_is = (chosen.1 disk here).1 refl
 
   never_damaged : (at : ℕ) → damaged_by disk c at → ⊥
-  never_damaged at damaged = undamaged disk c at (subst (IsJournalOf disk) chosen_is (journal_is g chosen.0 all_sound.0 all_sound.1 disk here)) damaged
+  never_damaged at damaged = undamaged disk c at (subst (IsJournalOf disk) chosen_is ((by_topology (λ disk. IsDisk g disk → IsJournalOf disk (chosen.0 disk)) (λ here. (_, all_sound.1.topology)) (λ disk other here. journal_of g all_sound.0.disks disk other (chosen.0 disk) (all_sound.1.records disk here))) disk here)) damaged
 
 -- a topology that is kept has as many joiners as the setting
 pub kept_joiners : ReadTopologyIsKept → TopologyFits → (g : Setting) (image : DiskName → List ℕ → Type 0) → LeavesSomething g image → IsSoundStore g image → (kept : Option Topology) (asked : ℕ) → asked ≤ g.config.joiners

@@ -14,12 +14,6 @@ others_stay {D} left before after lent name lacks may c now = grind (arith, each
 pub record OutOrRose {D : Type 0} (faults : D → ℕ) (all out : List (LentDisk D)) (old new : ℕ) : Type 0 where
   pub each : (d : Lent D) → Mem d (all_lent all) → 1 ≤ faults d.disk → Mem d (all_lent out) ⊎ Rose old new
 
-rose_by : (old mid new more : ℕ) → old ≤ mid → 1 ≤ more → new ≡ added mid more → Rose old new
-rose_by old mid new more later met is = omega (arith, later, met, is)
-
-stays_risen : (old mid new more : ℕ) → new ≡ added mid more → Rose old mid → Rose old new
-stays_risen old mid new more is rose = omega (arith, rose, is)
-
 -- the last disk of a list is given back
 pub last_counts : {D : Type 0} (faults : D → ℕ) (all out rest : List (LentDisk D)) (one : LentDisk D) (old mid new : ℕ) → out ≡ rest ++ one ∷ [] → old ≤ mid → new ≡ added mid (faults one.disk)
     → OutOrRose faults all out old mid → OutOrRose faults all rest old new
@@ -27,10 +21,10 @@ last_counts {D} faults all out rest one old mid new cut later is so =
     let whole : all_lent out ≡ all_lent rest ++ lent_of one ∷ [] = ap all_lent cut ∙ map-append lent_of rest (one ∷ []) in
     record {
       each = λ d among met. elim (so.each d among met) [
-        | inr rose ↦ inr (stays_risen old mid new (faults one.disk) is rose)
+        | inr rose ↦ inr (omega (arith, rose, is))
         | inl among ↦ elim (mem_split d (all_lent rest) (lent_of one ∷ []) (subst (Mem d) whole among)) [
           | inl among ↦ inl among
-          | inr (inl same) ↦ inr (rose_by old mid new (faults one.disk) later (subst (λ (l : Lent D). 1 ≤ faults l.disk) (sym same) met) is)
+          | inr (inl same) ↦ inr (omega (arith, later, (subst (λ (l : Lent D). 1 ≤ faults l.disk) (sym same) met), is))
           | inr (inr none) ↦ absurd none
         ]
       ];

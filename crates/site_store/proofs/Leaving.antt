@@ -14,24 +14,15 @@ module _ {D : Type 0} (left : D → List ℕ → Type 0) (before mid : DiskName 
     back_as Q weak here disk c now = grind (arith, each_mem)
 
     pub back_stays : StaysAs (left old.disk) (left new.disk) → (disk : DiskName) → StaysAs (before disk) (after disk)
-    back_stays same disk = back_as (λ n c. IsOpened (before n) c) (λ n c from. from) here disk
-      where
-        here : (c : List ℕ) → left new.disk c → IsOpened (before new.name) c
-        here c now = subst (λ (n : DiskName). IsOpened (before n) c) (sym named) (opened_through (before old.name) (left old.disk) so.out.0 c (same c now))
+    back_stays same disk = back_as (λ n c. IsOpened (before n) c) (λ n c from. from) (λ c now. subst (λ (n : DiskName). IsOpened (before n) c) (sym named) (opened_through (before old.name) (left old.disk) so.out.0 c (same c now))) disk
 
     pub back_grown : GoesOn (left old.disk) (left new.disk) → (disk : DiskName) → GoesOn (before disk) (after disk)
-    back_grown grows disk = back_as (λ n c. Continues (before n) c) (λ n c from. continues_opened (before n) c from) here disk
-      where
-        here : (c : List ℕ) → left new.disk c → Continues (before new.name) c
-        here c now = subst (λ (n : DiskName). Continues (before n) c) (sym named) (goes_through (before old.name) (left old.disk) (left new.disk) (stays_grows (before old.name) (left old.disk) so.out.0) grows c now)
+    back_grown grows disk = back_as (λ n c. Continues (before n) c) (λ n c from. continues_opened (before n) c from) (λ c now. subst (λ (n : DiskName). Continues (before n) c) (sym named) (goes_through (before old.name) (left old.disk) (left new.disk) (stays_grows (before old.name) (left old.disk) so.out.0) grows c now)) disk
 
     -- of the topology's disk P may hold besides
     pub back_or : (P : List ℕ → Type 0) → old.name ≡ name.Topology → ((c : List ℕ) → left new.disk c → IsOpened (left old.disk) c ⊎ P c)
         → (disk : DiskName) (c : List ℕ) → after disk c → IsOpened (before disk) c ⊎ ((disk ≡ name.Topology) × P c)
-    back_or P is either = back_as (λ n c. IsOpened (before n) c ⊎ ((n ≡ name.Topology) × P c)) (λ n c from. inl from) here
-      where
-        here : (c : List ℕ) → left new.disk c → IsOpened (before new.name) c ⊎ ((new.name ≡ name.Topology) × P c)
-        here c now = grind arith
+    back_or P is either = back_as (λ n c. IsOpened (before n) c ⊎ ((n ≡ name.Topology) × P c)) (λ n c from. inl from) (λ c now. grind arith)
 
     pub back_others : (P : List ℕ → Type 0) → old.name ≡ name.Topology → ((c : List ℕ) → left new.disk c → IsOpened (left old.disk) c ⊎ P c)
         → (disk : DiskName) → disk ≢ name.Topology → StaysAs (before disk) (after disk)

@@ -1,15 +1,11 @@
 -- Disks that are lent and given back, one by one.
 use Rattle.std.proofs.Common.{◌≡◌, ◌≢◌, ◌⊎◌, inl, inr, ℕ, ◌+◌, ◌<◌, List, [], ◌∷◌, ◌++◌, length, take, get_or, refl, sym, ◌∙◌, ap, subst, arith, zero, suc, map}
-use Rattle.site_store.proofs.Words.{map-append, take_more, length-append, Each, EachPair, Mem, mem_left, DiskName, Within, StaysAs, IsKeptIn, Lent, Lacks, IsLent, MayBeLeft, OpenView, KeepsAs, IsKept, kept_by, lent_by, lent_all, other_names}
+use Rattle.site_store.proofs.Words.{map-append, take_more, length-append, Each, EachPair, Mem, each_append, mem_left, mem_right, DiskName, Within, StaysAs, IsKeptIn, Lent, Lacks, IsLent, MayBeLeft, OpenView, KeepsAs, IsKept, kept_by, lent_by, lent_all, other_names}
 use Rattle.site_store.proofs.Names.{others_apart}
 use Rattle.site_store.proofs.Stays.{opened_same}
 
 pub same_or_not : (a b : DiskName) → (a ≡ b) ⊎ (a ≢ b)
 same_or_not a b = grind arith
-
-pub each_push : {A : Type 0} (P : A → Type 0) (xs : List A) (y : A) → Each P xs → P y → Each P (xs ++ y ∷ [])
-each_push P [] y h p = (p, tt)
-each_push P (x ∷ xs) y h p = (h.0, each_push P xs y h.1 p)
 
 pub each_front : {A : Type 0} (P : A → Type 0) (xs ys : List A) → Each P (xs ++ ys) → Each P xs
 each_front P [] ys h = tt
@@ -26,10 +22,6 @@ each_two P Q R (x ∷ xs) f h k = (f x h.0 k.0, each_two P Q R xs f h.1 k.1)
 pub each_mem : {A : Type 0} (P : A → Type 0) (x : A) (xs : List A) → Each P xs → Mem x xs → P x
 each_mem P x [] h m = absurd m
 each_mem P x (y ∷ ys) h k = grind (arith, each_mem P x ys h.1)
-
-pub mem_last : {A : Type 0} (x : A) (xs : List A) → Mem x (xs ++ x ∷ [])
-mem_last x [] = inl refl
-mem_last x (y ∷ xs) = inr (mem_last x xs)
 
 pub each_at : {A : Type 0} (P : A → Type 0) (xs : List A) (i : ℕ) (d : A) → Each P xs → i < length xs → P (get_or xs i d)
 each_at P [] i d h lt = absurd (omega arith)
@@ -51,7 +43,7 @@ each_map P f [] h = tt
 each_map P f (x ∷ xs) h = (h.0, each_map P f xs h.1)
 
 pub each_more : {A : Type 0} (P : A → Type 0) (all now : List A) (one : A) → Each P all → P one → now ≡ all ++ one ∷ [] → Each P now
-each_more P all now one so here is = subst (Each P) (sym is) (each_push P all one so here)
+each_more P all now one so here is = subst (Each P) (sym is) (each_append P all (one ∷ []) so (here, tt))
 
 pub length_more : {A : Type 0} (all now : List A) (one : A) → now ≡ all ++ one ∷ [] → length now ≡ length all + 1
 length_more all now one is = ap length is ∙ length-append all (one ∷ [])
@@ -66,7 +58,7 @@ module _ {D : Type 0} (left : D → List ℕ → Type 0) where
   -- one disk more
   one_lent : (before mid after : DiskName → List ℕ → Type 0) (lent : List (Lent D)) (one : Lent D) → IsLent left before mid lent → Lacks lent one.name
       → StaysAs (mid one.name) (left one.disk) → ((other : DiskName) → other ≢ one.name → Within (mid other) (after other)) → IsLent left before after (lent ++ one ∷ [])
-  one_lent before mid after lent one so lacks stays others = grind (arith, each_push, each_front, each_back)
+  one_lent before mid after lent one so lacks stays others = grind (arith, each_append, each_front, each_back)
 
   -- the first disk, and others that were lent behind it
   pub first_lent : (before mid after : DiskName → List ℕ → Type 0) (one : Lent D) (lent : List (Lent D)) → StaysAs (before one.name) (left one.disk) → ((other : DiskName) → other ≢ one.name → Within (before other) (mid other))
@@ -82,8 +74,8 @@ module _ {D : Type 0} (left : D → List ℕ → Type 0) where
   given before after front one images others name c (inr of) =
       inr (record { one = of.one; among = mem_left of.one front (one ∷ []) of.among; named = of.named; may = of.may })
   given before after front one images others name c (inl stays) = elim (same_or_not name one.name) [
-    | inl same ↦ inr (record { one = one; among = mem_last one front; named = sym same; may = images c (subst (λ (n : DiskName). after n c) same stays.1) })
-    | inr not ↦ inl (each_push (λ (l : Lent D). l.name ≢ name) front one stays.0 (λ e. not (sym e)), others name not c stays.1)
+    | inl same ↦ inr (record { one = one; among = mem_right one front (one ∷ []) (inl refl); named = sym same; may = images c (subst (λ (n : DiskName). after n c) same stays.1) })
+    | inr not ↦ inl (each_append (λ (l : Lent D). l.name ≢ name) front (one ∷ []) stays.0 ((λ e. not (sym e)), tt), others name not c stays.1)
   ]
 
   -- the last of some disks is given back

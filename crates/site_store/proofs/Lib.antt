@@ -1,6 +1,5 @@
 pub mod Words
 pub mod Stays
-pub mod Worked
 pub mod Faults
 pub mod Lending
 pub mod Planned

@@ -146,8 +146,7 @@ module _ (joiners replicas : ℕ) where
 
     pub by_outputs : (w : ℕ → X) → ((r : ℕ) → h (name.Replica r) ≡ []) → ((j : ℕ) → h (name.Output 0 j) ≡ v j ∷ []) → ((j : ℕ) → h (name.Output 1 j) ≡ w j ∷ [])
         → flat_map h all ≡ values_from v 0 joiners ++ values_from w 0 joiners
-    by_outputs w replica one other =
-        grind (arith, behind, flat_map-append, no_epoch 0, no_epoch 1, none_value h (λ r. name.Replica r) replicas replica, flat_value h (λ j. name.Output 0 j) v 0 joiners one, flat_value h (λ j. name.Output 1 j) w 0 joiners other)
+    by_outputs w replica one other = grind (arith, behind, flat_map-append, none_value, flat_value)
 
 -- ---- they are the setting's
 

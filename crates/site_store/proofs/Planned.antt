@@ -1,5 +1,5 @@
 -- Disks that are taken, used and given back by their plans of stops.
-use Rattle.std.proofs.Common.{◌≡◌, ◌≢◌, ℕ, Bool, false, List, [], ◌∷◌, ◌++◌, map, Option, ◌∙◌, refl, ap, subst, arith}
+use Rattle.std.proofs.Common.{◌≡◌, ◌≢◌, ℕ, Bool, false, List, [], ◌∷◌, ◌++◌, map, Option, ◌∙◌, refl, subst, arith}
 use Rattle.outside.specs.Faults.{added}
 use Rattle.outside.specs.Plans.{AtMost, MeetsPlan}
 use Rattle.outside.proofs.Plans.{fewer, same_plan}
@@ -62,9 +62,7 @@ module _ {D : Type 0} (stops : D → ℕ → Bool) (made faults : D → ℕ) whe
 -- the last of some disks is given back, none of which met a fault
 pub last_calm : {D X : Type 0} (faults : D → ℕ) (f : X → Lent D) (all rest : List X) (one : X) (old mid new : ℕ) → all ≡ rest ++ one ∷ [] → new ≡ added mid (faults (f one).disk)
     → Each (λ l. faults l.disk ≡ 0) (map f all) × (mid ≡ old) → Each (λ l. faults l.disk ≡ 0) (map f rest) × (new ≡ old)
-last_calm {D} faults f all rest one old mid new cut is calm =
-    let split = subst (Each (λ (l : Lent D). faults l.disk ≡ 0)) (ap (map f) cut ∙ map-append f rest (one ∷ [])) calm.0 in
-    (each_front (λ (l : Lent D). faults l.disk ≡ 0) (map f rest) (f one ∷ []) split, none_added _ _ _ is (each_back (λ (l : Lent D). faults l.disk ≡ 0) (map f rest) (f one ∷ []) split).0 ∙ calm.1)
+last_calm {D} faults f all rest one old mid new cut is calm = grind (arith, map-append, each_front, each_back)
 
 -- ---- disks of a store
 

@@ -1,5 +1,5 @@
 -- The records of a setting's nodes that its disks keep.
-use Rattle.std.proofs.Common.{◌≡◌, ◌≢◌, ◌⊎◌, inl, inr, ℕ, zero, suc, ◌+◌, ◌-◌, ◌*◌, ◌<◌, nat_lt, List, [], map, Bool, true, cond, IsTrue, Option, Some, None, sym, ◌∙◌, ap, subst, arith}
+use Rattle.std.proofs.Common.{◌≡◌, ◌≢◌, ◌⊎◌, inl, inr, ℕ, suc, ◌+◌, ◌-◌, ◌*◌, ◌<◌, nat_lt, List, [], map, Bool, true, cond, IsTrue, Option, Some, None, sym, ◌∙◌, ap, subst, arith}
 use Rattle.site_store.proofs.Words.{Each, EachPair, each_from, Mem, DiskName, ReplicaNote, PairRec, Setting, first_joiner, JoinerKept, ReplicaKept, IsKeptIn, kept_of, Disks, StoreTopology, topology_of, WholeSound, TopologyComesFirst, IsDisk, KeepsOf, KeepsVotes, IsSoundStore, AreLeft, joiner_of, topology_read, ReadTopologyIsKept, ReadNotesAreKept, OpenedIsWhole, joiners_kept, Kept, OffsetIs, PendingAre, EpochIs, NotesAre, PairsAre, KeptDisk, KeptValues, KeepsAs, IsOfKind, IsKept, AreKept, Says, AreRecordsOf, other_names}
 use Rattle.outside.specs.declared.store.DiskName.TheVariants as name
 use Rattle.site_store.proofs.Lending.{each_mem, same_or_not}
@@ -82,9 +82,8 @@ abbrev pub place_in : (many place : ℕ) → ℕ
 place_in many place = cond (nat_lt place many) place (place - many)
 
 joiner_in : (many s j place : ℕ) → s < 2 → j < many → place ≡ s * many + j → (site_in many place ≡ s) × (place_in many place ≡ j)
-joiner_in many zero j place lt below is = grind arith
-joiner_in many (suc zero) j place lt below is = grind arith
 joiner_in many (suc (suc s)) j place lt below is = absurd (omega (arith, lt))
+joiner_in many _ j place lt below is = grind arith
 
 abbrev pub joiner_disks : Setting → List KeptDisk → (s j : ℕ) → JoinerKept
 joiner_disks g disks s j = record { epoch = epoch_in (kept_at disks (name.Epoch s j)); pairs = pairs_in (kept_at disks (name.Output s j)) }

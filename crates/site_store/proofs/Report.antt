@@ -1,6 +1,6 @@
 -- What the journals that a store is read as say is the report of records that its disks kept.
 use Rattle.std.proofs.Common.{◌≡◌, ℕ, zero, suc, ◌+◌, ◌*◌, ◌<◌, List, [], ◌∷◌, ◌++◌, map, Bool, IsTrue, true, Option, Some, None, refl, sym, ◌∙◌, ap, subst, arith, flat_map}
-use Rattle.site_store.proofs.Words.{map-append, Each, DiskName, PairRec, note_view, Topology, Setting, first_joiner, BallotNote, ReplicaKept, joiners_kept, journals, values_from, Disks, Store, AreOf, TellsTheReport, joiner_of, ReadTopologyIsKept, ReadNotesAreKept, OpenedIsWhole, Kept, KeptDisk, KeptValues, IsOfKind, AreKept, Says, AreRecordsOf, other_names, IsAsked, ArePassed, KeptStore, notes_at, pairs_at, IsOfValues, IsRead, Tells}
+use Rattle.site_store.proofs.Words.{map-append, Each, DiskName, PairRec, note_view, Topology, Setting, first_joiner, BallotNote, joiners_kept, journals, values_from, Disks, Store, AreOf, TellsTheReport, joiner_of, ReadTopologyIsKept, ReadNotesAreKept, OpenedIsWhole, Kept, KeptDisk, KeptValues, IsOfKind, AreKept, Says, AreRecordsOf, other_names, IsAsked, ArePassed, KeptStore, notes_at, pairs_at, IsOfValues, IsRead, Tells}
 use Rattle.outside.specs.declared.store.DiskName.TheVariants as name
 use Rattle.site_store.proofs.Lending.{each_two}
 use Rattle.site_store.proofs.Names.{by_outputs, by_replicas, others_apart, others_are}
@@ -38,12 +38,10 @@ module _ (g : Setting) (d : Disks) where
   pairs_by other = []
 
   notes_said : (n : DiskName) (kept : Kept) → IsOfKind n kept → Says g d n kept → map (map note_view) (notes_at kept) ≡ notes_by n
-  notes_said (name.Replica r) kept own (notes, is, same) = ap (λ (k : Kept). map (map note_view) (notes_at k)) is ∙ ap (λ (k : ReplicaKept). k.notes ∷ []) (sym same)
-  notes_said _ kept (v, is) says = ap (λ (k : Kept). map (map note_view) (notes_at k)) is
+  notes_said h kept own k = grind (arith, note_view)
 
   pairs_said : (n : DiskName) (kept : Kept) → IsOfKind n kept → Says g d n kept → pairs_at kept ≡ pairs_by n
-  pairs_said (name.Output s j) kept own says = ap pairs_at says
-  pairs_said _ kept (v, is) says = ap pairs_at is
+  pairs_said h kept own says = grind arith
 
   abbrev of_site : ℕ → ℕ → List PairRec
   of_site s j = (d.joiners (joiner_of g s j)).pairs

@@ -4,12 +4,9 @@ use Rattle.site_store.proofs.Words.{cases_lt, eq-eqb, get_or-take, get_or-drop, 
 
 -- ---- any numbers
 
-pub none_joined : (P : ℕ → Type 0) (a b c : ℕ) → NoneBetween P a b → NoneBetween P b c → NoneBetween P a c
-none_joined P a b c f g n low high is = ⊎_elim (λ past. g n past high is) (λ within. f n low within is) (cases_lt b n)
-
 -- nothing is found from here on
 pub floor_stays : (P : ℕ → Type 0) (least a b floor : ℕ) → IsFloorFrom P least a floor → a ≤ b → NoneBetween P a b → IsFloorFrom P least b floor
-floor_stays P least a b floor h le none = record { above = h.above; below = omega (arith, h.below); is = h.is; none = none_joined P floor a b h.none none }
+floor_stays P least a b floor h le none = record { above = h.above; below = omega (arith, h.below); is = h.is; none = λ n low high is. ⊎_elim (λ past. none n past high is) (λ within. h.none n low within is) (cases_lt a n) }
 
 -- nothing is between a floor of the upper part that was found and the end
 pub floor_found : (P : ℕ → Type 0) (from to at floor : ℕ) → IsFloorFrom P from to floor → from < floor → to ≤ at → NoneBetween P to at → IsFloorOf P at floor

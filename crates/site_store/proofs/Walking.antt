@@ -56,6 +56,5 @@ next_one {A} R S i xs ys d new so lt is = one_at R S i xs ys d new so lt (subst 
 -- two lists, and two behind them
 pub each_with_append : {A B : Type 0} (R : A → B → Type 0) (xs zs : List A) (ys ws : List B) → EachWith R xs ys → EachWith R zs ws → EachWith R (xs ++ zs) (ys ++ ws)
 each_with_append R [] zs [] ws h k = k
-each_with_append R [] zs (y ∷ ys) ws h k = absurd h
-each_with_append R (x ∷ xs) zs [] ws h k = absurd h
 each_with_append R (x ∷ xs) zs (y ∷ ys) ws h k = (h.0, each_with_append R xs zs ys ws h.1 k)
+each_with_append R _ zs _ ws h k = absurd h

@@ -1,16 +1,14 @@
 -- A row that is put behind those of the table that a store keeps.
 use Rattle.std.specs.Prelude.{◌≡◌, ◌≢◌, ◌⊎◌, ℕ, List, map, flat_map, Bool, IsTrue, Option, None, Some, Result, Ok, Err, ⊤}
-use Rattle.site_store.specs.Terms.{DiskName, GoesOn, Images, IsOpened, IsSoundOr, IsSoundStore, Misplaced, RunFault, Setting, ShardRow, StaysAs, Topology, Unfit, all_batches, too_soon_for, topology_of}
+use Rattle.site_store.specs.Terms.{DiskName, GoesOn, Images, IsOpened, IsSoundOr, IsSoundStore, Misplaced, OfDisk, RunFault, Setting, ShardRow, StaysAs, Topology, Unfit, all_batches, note_view, too_soon_for, topology_by}
 use Rattle.outside.specs.declared.store.DiskName.TheVariants as name
 use Rattle.registry_state.specs.declared.Batch.{Batch}
-use Rattle.paxos_acceptor.specs.Cells.{note_view}
 use Rattle.time_shards.specs.declared.AddFault.{AddFault}
 use Rattle.time_shards.specs.declared.AddFault.TheVariants.{Rows, Start}
 use Rattle.time_shards.specs.Shards.{added}
 use Rattle.verify_pass.specs.declared.starts.TooSoon.{TooSoon}
 use Rattle.verify_pass.specs.declared.starts.TooSoon.TheVariants.{Bound, Id}
 use Rattle.photon_model.specs.Adding.{with_row}
-use Rattle.run_fault.specs.declared.fault.StorePlace.TheVariants.{Disk as OfDisk}
 use Rattle.run_fault.specs.declared.fault.Unfit.TheVariants as unfit
 use Rattle.run_fault.specs.declared.fault.RunFault.TheVariants as fault
 use Rattle.site_store.specs.Records.{KeptDisk, KeptValues, AreKept}
@@ -34,7 +32,7 @@ abbrev pub answer_of : (joiners start : ℕ) → Result (List ShardRow) AddFault
 answer_of joiners start (Err Rows) soon = Err unfit.Rows
 answer_of joiners start (Err (Start last)) soon = Err (unfit.Start last start)
 answer_of joiners start (Ok table) (Some soon) = Err (unfit_by soon)
-answer_of joiners start (Ok table) None = Ok (topology_of joiners table)
+answer_of joiners start (Ok table) None = Ok (topology_by joiners table)
 
 -- the kept topology with the row, or the first reason against it
 abbrev pub answer_to : Option Topology → List Batch → ShardRow → Result Topology Unfit

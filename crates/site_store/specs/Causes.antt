@@ -1,9 +1,6 @@
 -- Why a store isn't opened, read or run over: the causes of the statuses, by what a stop might have left of its disks before.
 use Rattle.std.specs.Prelude.{◌≡◌, ◌⊎◌, ℕ, List, Bool, IsTrue, Option, None, Some, ⊤}
-use Rattle.site_store.specs.Terms.{DiskName, IsDisk, IsLogOf, LAST_EPOCH, Misplaced, RunFault, Setting, Topology, end_from}
-use Rattle.run_fault.specs.declared.fault.LogName.{LogName}
-use Rattle.run_fault.specs.declared.fault.LogName.TheVariants.{Clicks}
-use Rattle.run_fault.specs.declared.fault.StorePlace.{StorePlace}
+use Rattle.site_store.specs.Terms.{Clicks, DiskName, IsDisk, IsLogOf, LAST_EPOCH, LogName, Misplaced, RunFault, Setting, StorePlace, Topology, end_from}
 use Rattle.run_fault.specs.declared.fault.StorePlace.TheVariants as place
 use Rattle.run_fault.specs.declared.fault.Mismatch.TheVariants as mismatch
 use Rattle.run_fault.specs.declared.fault.RunFault.TheVariants as fault

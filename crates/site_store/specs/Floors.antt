@@ -1,6 +1,6 @@
 -- The greatest number of a kind that is no greater than a given one.
 use Rattle.std.specs.Prelude.{◌≡◌, ◌⊎◌, ℕ, suc, ◌<◌, ◌≤◌, List, get_or}
-use Rattle.log_records.specs.Log.{line_feed}
+use Rattle.site_store.specs.Terms.{line_feed}
 
 -- none of the numbers above `low` up to `high` has P
 abbrev pub NoneBetween : (ℕ → Type 0) → ℕ → ℕ → Type 0

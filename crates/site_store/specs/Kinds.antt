@@ -1,9 +1,7 @@
 -- The kinds of journal by the names of their disks.
 use Rattle.std.specs.Prelude.{◌≡◌, ℕ, List, Err, Option, None, Some}
-use Rattle.site_store.specs.Terms.{DiskName, Topology, epoch_of, offset_of, pending_of}
+use Rattle.site_store.specs.Terms.{DiskName, IsOutputDamaged, IsTopologyDamaged, Topology, epoch_of, offset_of, pending_of}
 use Rattle.outside.specs.declared.store.DiskName.TheVariants as name
-use Rattle.topology_journal.specs.Topologies.{IsDamagedAt as IsTopologyDamaged}
-use Rattle.output_log.specs.Pairs.{IsDamagedAt as IsOutputDamaged}
 use Rattle.replica_node.specs.Votes.{IsDamagedAt as IsVotesDamaged}
 
 -- a file under this name is damaged at this place, as its kind of journal reads it

@@ -1,7 +1,6 @@
 -- What opening the disks of a store does.
 use Rattle.std.specs.Prelude.{ℕ, List, Bool, IsTrue}
-use Rattle.site_store.specs.Terms.{DiskName, IsOfDisk, Rose, RunFault}
-use Rattle.gate_journal.specs.declared.reading.JournalFault.{JournalFault}
+use Rattle.site_store.specs.Terms.{DiskName, IsOfDisk, JournalFault, Rose, RunFault}
 use Rattle.gate_journal.specs.declared.reading.JournalFault.TheVariants as journal
 use Rattle.site_store.specs.Kinds.{damaged_by}
 use Rattle.run_fault.specs.declared.fault.StorePlace.TheVariants as place

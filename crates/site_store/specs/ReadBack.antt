@@ -1,8 +1,7 @@
 -- What reading disks back gives.
 use Rattle.std.specs.Prelude.{◌≡◌, ◌≢◌, ◌≤◌, ◌⊎◌, ⊤, ℕ, List, [], ◌∷◌, ◌||◌, Bool, true, false, filter, IsTrue}
-use Rattle.site_store.specs.Terms.{DiskName, Each, IsOfDisk, KeepsNotes, PairRec, ReplicaNote, Rose, RunFault, Throughout}
+use Rattle.site_store.specs.Terms.{DiskName, Each, IsOfDisk, KeepsNotes, KeepsPairs, PairRec, ReplicaNote, Rose, RunFault, Throughout}
 use Rattle.outside.specs.declared.store.DiskName.TheVariants as name
-use Rattle.output_log.specs.Pairs.{Keeps as KeepsPairs}
 use Rattle.site_store.specs.Kinds.{damaged_by}
 use Rattle.site_store.specs.declared.lent.disk.LentDisk.{LentDisk}
 use Rattle.site_store.specs.declared.lent.reading.ReadAs.{ReadAs}

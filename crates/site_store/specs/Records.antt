@@ -1,12 +1,7 @@
 -- What the disks of a store keep, each under its name, and the records of a setting's nodes.
 use Rattle.std.specs.Prelude.{◌≡◌, ℕ, List, map, Bool, IsTrue, Option, ⊤}
-use Rattle.site_store.specs.Terms.{DiskName, Disks, Each, IsKeptIn, KeepsNotes, PairRec, ReplicaNote, Setting, Topology, joiner_of, kept_of}
+use Rattle.site_store.specs.Terms.{DiskName, Disks, Each, IsKeptIn, KeepsEpoch, KeepsNotes, KeepsOffset, KeepsPairs, KeepsPending, Keeps, PairRec, ReplicaNote, Setting, Topology, joiner_of, kept_of}
 use Rattle.outside.specs.declared.store.DiskName.TheVariants as name
-use Rattle.topology_journal.specs.Topologies.{Keeps as KeepsTopology}
-use Rattle.epoch_journal.specs.Epochs.{Keeps as KeepsEpoch}
-use Rattle.offset_journal.specs.Offsets.{Keeps as KeepsOffset}
-use Rattle.retry_log.specs.Pending.{Keeps as KeepsPending}
-use Rattle.output_log.specs.Pairs.{Keeps as KeepsPairs}
 use Rattle.site_store.specs.Kinds.{joiners_kept}
 use Rattle.site_store.specs.Refusals.{other_names}
 use Rattle.site_store.specs.Lent.{Lent}
@@ -22,7 +17,7 @@ pub data Kept : Type 0 where
 
 -- the bytes of a file keep this
 abbrev pub KeepsAs : Kept → List ℕ → Type 0
-KeepsAs (TopologyIs topology) bytes = KeepsTopology topology bytes
+KeepsAs (TopologyIs topology) bytes = Keeps topology bytes
 KeepsAs (OffsetIs offset) bytes = KeepsOffset offset bytes
 KeepsAs (PendingAre positions) bytes = KeepsPending positions bytes
 KeepsAs (EpochIs epoch) bytes = KeepsEpoch epoch bytes
@@ -85,7 +80,7 @@ IsKept before d = IsKeptIn (before d.name) (KeepsAs d.kept)
 -- The disks keep these values, with so many replicas, and as many joiners as are kept, or else as are asked for: each disk records of
 -- its kind, which one of its images has.
 pub record AreKept (tells : Bool) (before : DiskName → List ℕ → Type 0) (replicas asked : ℕ) (k : KeptValues) : Type 0 where
-  pub topology : IsTrue tells → IsKeptIn (before name.Topology) (KeepsTopology k.topology)
+  pub topology : IsTrue tells → IsKeptIn (before name.Topology) (Keeps k.topology)
   pub named : map (λ d. d.name) k.disks ≡ other_names (joiners_kept k.topology asked) replicas
   pub kinds : Each (λ d. IsOfKind d.name d.kept) k.disks
   pub kept : IsTrue tells → Each (IsKept before) k.disks

@@ -1,17 +1,12 @@
 -- Which disk is told where one isn't opened: the first in the order of the names.
 use Rattle.std.specs.Prelude.{◌≡◌, ◌⊎◌, ℕ, List, [], ◌∷◌, ◌++◌, Bool, IsTrue, Option}
-use Rattle.site_store.specs.Terms.{DiskName, Each, IsKeptIn, KeepsNotes, PairRec, ReplicaNote, Topology, values_from}
+use Rattle.site_store.specs.Terms.{DiskName, Each, IsKeptIn, KeepsEpoch, KeepsNotes, KeepsOffset, KeepsPairs, KeepsPending, Keeps, PairRec, ReplicaNote, Topology, values_from}
 use Rattle.outside.specs.declared.store.DiskName.TheVariants as name
-use Rattle.topology_journal.specs.Topologies.{Keeps as KeepsTopology}
-use Rattle.epoch_journal.specs.Epochs.{Keeps as KeepsEpoch}
-use Rattle.offset_journal.specs.Offsets.{Keeps as KeepsOffset}
-use Rattle.retry_log.specs.Pending.{Keeps as KeepsPending}
-use Rattle.output_log.specs.Pairs.{Keeps as KeepsPairs}
 use Rattle.site_store.specs.Kinds.{joiners_kept}
 
 -- a file under this name is a journal of its kind
 abbrev pub IsJournalOf : DiskName → List ℕ → Type 0
-IsJournalOf name.Topology bytes = (kept : Option Topology) × KeepsTopology kept bytes
+IsJournalOf name.Topology bytes = (kept : Option Topology) × Keeps kept bytes
 IsJournalOf (name.Offset site) bytes = (offset : ℕ) × KeepsOffset offset bytes
 IsJournalOf (name.Retry site) bytes = (pending : List ℕ) × KeepsPending pending bytes
 IsJournalOf (name.Server site) bytes = (epoch : ℕ) × KeepsEpoch epoch bytes
@@ -46,4 +41,4 @@ other_names joiners replicas =
 abbrev pub IsFirstDisk : Bool → (DiskName → List ℕ → Type 0) → (replicas asked : ℕ) → DiskName → Type 0
 IsFirstDisk tells before replicas asked disk =
     (disk ≡ name.Topology)
-    ⊎ ((kept : Option Topology) × (IsTrue tells → IsKeptIn (before name.Topology) (KeepsTopology kept)) × IsFirst tells before (other_names (joiners_kept kept asked) replicas) disk)
+    ⊎ ((kept : Option Topology) × (IsTrue tells → IsKeptIn (before name.Topology) (Keeps kept)) × IsFirst tells before (other_names (joiners_kept kept asked) replicas) disk)

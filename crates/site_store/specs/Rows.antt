@@ -1,6 +1,6 @@
 -- The lines of the worked rows, and what is answered to a row where two replicas keep notes.
 use Rattle.std.specs.Prelude.{ℕ, List, [], ◌∷◌, Option, Result}
-use Rattle.site_store.specs.Terms.{ClickLine, Replica, ReplicaNote, ShardRow, Topology, Unfit, one_click, topology_of}
+use Rattle.site_store.specs.Terms.{ClickLine, Replica, ReplicaNote, ShardRow, Topology, Unfit, one_click, topology_by}
 use Rattle.verify_pass.specs.Rows.{one_batch, only_bound, took}
 use Rattle.site_store.specs.Records.{NotesAre}
 use Rattle.site_store.specs.Adding.{accepted, answer_to}
@@ -15,7 +15,7 @@ rows_at [] = []
 rows_at (start ∷ starts) = record { start = start; count = 4 } ∷ rows_at starts
 
 abbrev pub with_rows : List ℕ → Topology
-with_rows starts = topology_of 1 (rows_at starts)
+with_rows starts = topology_by 1 (rows_at starts)
 
 -- one replica keeps no notes, and another that it accepted the worked click's id, or with it a bound
 abbrev pub an_id : List ReplicaNote

@@ -1,10 +1,8 @@
 -- What verification makes of the journals that a store is read as.
 use Rattle.std.specs.Prelude.{◌≡◌, ℕ, List, [], map, Bool}
-use Rattle.site_store.specs.Terms.{AreLeft, ClickLine, DiskName, IsSoundStore, Setting, Store, WholeSound, values_from}
-use Rattle.log_records.specs.declared.records.ClickRec.{ClickRec as Click}
+use Rattle.site_store.specs.Terms.{AreLeft, AreOf, Click, ClickLine, DiskName, IsSoundStore, Setting, Store, WholeSound, values_from}
 use Rattle.log_records.specs.Report.{distinct}
 use Rattle.photon_model.specs.Report.{report}
-use Rattle.photon_model.specs.Verification.{AreOf}
 use Rattle.verify_pass.specs.declared.journals.Journals.{Journals}
 use Rattle.verify_pass.specs.Classes.{line_of}
 

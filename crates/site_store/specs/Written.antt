@@ -1,9 +1,7 @@
 -- What the topology's disk may hold once it was written to.
 use Rattle.std.specs.Prelude.{◌≡◌, ◌⊎◌, ℕ, List, [], ◌∷◌, ◌++◌, Some}
 use Rattle.outside.specs.declared.store.DiskName.TheVariants as name
-use Rattle.site_store.specs.Terms.{IsOfDisk, IsOpened, Rose, RunFault, Topology, topology_record}
-use Rattle.gate_journal.specs.Gate.{StandsFor}
-use Rattle.topology_journal.specs.Topologies.{Keeps}
+use Rattle.site_store.specs.Terms.{IsOfDisk, IsOpened, Keeps, Rose, RunFault, StandsFor, Topology, topology_record}
 
 -- each image keeps this topology
 abbrev pub AllKeep : Topology → (List ℕ → Type 0) → Type 0

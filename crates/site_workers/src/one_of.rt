@@ -8,7 +8,7 @@ use site_node::{Done, NodeFault, SiteNode};
 
 /// A node of one of four kinds, so that nodes of several kinds stand in one list. It costs a test a call.
 #[derive(Drop)]
-pub enum OneOf<A: SiteNode, B: SiteNode, C: SiteNode, D: SiteNode> {
+pub enum OneOf<A, B, C, D> {
     First(A),
     Second(B),
     Third(C),

@@ -13,6 +13,7 @@ mod outsides;
 mod places;
 mod scenes;
 mod stores;
+mod turns;
 
 use script_lines::{Report, Script};
 use std::io;

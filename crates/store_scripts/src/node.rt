@@ -1,32 +1,23 @@
 // A node of one of the four kinds, over disks and a log in memory.
-ghost use Rattle.std.specs.Prelude.{◌≡◌, IfOk};
+ghost use Rattle.std.specs.Prelude.{◌≡◌, ◌≤◌, IfOk, false};
 
-use crate::held::Held;
-use air_bus::Input;
-use dispatch_node::DispatchNode;
+use crate::turns::play_turns;
+use dispatch_node::dispatch_node;
 use epoch_journal::EpochJournal;
 use gate_journal::JournalFault;
-use joiner_node::JoinerNode;
+use joiner_node::joiner_node;
 use mem_outside::{MemDisk, MemLog};
 use offset_journal::OffsetJournal;
 use output_log::OutputLog;
-use outside::Gate;
-use registry_server::ServerNode;
-use replica_node::{ReplicaNode, VoteJournal};
+use registry_server::server_node;
+use replica_node::{VoteJournal, replica_node};
 use retry_log::RetryLog;
 use script_lines::disks::{disk_holding, fuse};
-use script_lines::{Stop, Words, bytes_of, number_of};
-use std::alloc::Global;
+use script_lines::{Report, Row, Stop, Words, bytes_of, number_of};
+use site_node::SiteNode;
+use std::alloc::{AllocError, AllocFailed, Global};
 use time_shards::Table;
 use turn_defs::Config;
-
-#[derive(Drop)]
-pub enum Node {
-    Dispatcher(Held<DispatchNode<MemDisk, MemLog>>),
-    Server(Held<ServerNode<MemDisk>>),
-    Replica(Held<ReplicaNode<MemDisk>>),
-    Joiner(Held<JoinerNode<MemLog, MemDisk>>),
-}
 
 /// Why a node isn't opened.
 #[derive(Drop)]
@@ -41,22 +32,34 @@ impl From<Stop> for Refused {
     }
 }
 
-/// What a node is opened over: the log that was gathered, and what words say of it and of its disks. `DISK:HEX` is what a disk holds,
-/// `DISK:CALL=IMAGE` a stop of it, `reads:READ` a read of the log that fails.
-#[derive(Drop)]
-pub struct Outside {
-    alloc: Global,
-    text: Vec<u8>,
-    words: Vec<String>,
+impl From<AllocError> for Refused {
+    fn from(_: AllocError) -> Refused {
+        Refused::Row(Stop::Memory)
+    }
 }
 
-impl Outside {
-    fn new(alloc: Global, text: Vec<u8>, words: &mut Words<'_>) -> Result<Outside, Stop> {
-        Ok(Outside {
-            alloc,
-            text,
-            words: words.rest(alloc)?,
-        })
+impl<A: Drop> From<AllocFailed<A>> for Refused {
+    fn from(_: AllocFailed<A>) -> Refused {
+        Refused::Row(Stop::Memory)
+    }
+}
+
+// The row that opens a node, what its last words say of the node's disks and its log, and the node's turns. `DISK:HEX` is what a disk
+// holds, `DISK:CALL=IMAGE` a stop of it, `reads:READ` a read of the log that fails. The log is what was gathered for the row.
+#[derive(Drop)]
+struct Outside<'a> {
+    alloc: Global,
+    words: Vec<String>,
+    row: &'a Row<'a>,
+    turns: &'a [Row<'a>],
+}
+
+impl<'a> Outside<'a> {
+    // The node as its turns leave it. The row that opens it is answered first.
+    fn play<N: SiteNode + Drop>(&self, node: N, report: &mut Report) -> Result<N, AllocError>
+        requires { N.waits node ≡ false }
+    {
+        play_turns(self.alloc, node, self.row, self.turns, report)
     }
 
     fn disk(&self, name: &str) -> Result<MemDisk, Stop> {
@@ -79,7 +82,7 @@ impl Outside {
                 failing.push(number_of(read)?)?;
             }
         }
-        Ok(MemLog::new(self.text.to_vec(self.alloc)?, failing))
+        Ok(MemLog::new(self.row.text.to_vec(self.alloc)?, failing))
     }
 }
 
@@ -88,86 +91,48 @@ fn said_of<'a>(word: &'a str, name: &str) -> Option<&'a str> {
     if of == name { Some(said) } else { None }
 }
 
-impl Node {
-    /// A node that is down: `dispatcher SITE JOINERS` over the disks `offset` and `retry` and the log, `server SITE JOINERS HORIZON TABLE
-    /// BATCH` over `epoch`, `replica NUMBER JOINERS` over `votes`, `joiner SITE JOINERS PLACE` over `epoch` and `output` and the log.
-    pub fn open(
-        alloc: Global,
-        kind: &str,
-        text: Vec<u8>,
-        words: &mut Words<'_>,
-    ) -> Result<Node, Refused> {
-        let number = words.number()?;
-        let joiners = words.number()?;
-        if kind == "server" {
-            return server(alloc, number, joiners, text, words);
-        }
-        let config = config(joiners, 0, b"0:1", 64)?;
-        match kind {
-            "dispatcher" => dispatcher(number, config, &Outside::new(alloc, text, words)?),
-            "replica" => replica(number, config, &Outside::new(alloc, text, words)?),
-            "joiner" => {
-                let place = words.number()?;
-                joiner(number, config, place, &Outside::new(alloc, text, words)?)
-            }
-            _ => Err(Refused::Row(Stop::Words)),
-        }
-    }
-
-    pub fn turn<G: Gate>(
-        &mut self,
-        alloc: Global,
-        input: &Input,
-        gate: &G,
-    ) -> Result<String, Stop> {
-        match self {
-            Node::Dispatcher(held) => held.turn(alloc, input, gate),
-            Node::Server(held) => held.turn(alloc, input, gate),
-            Node::Replica(held) => held.turn(alloc, input, gate),
-            Node::Joiner(held) => held.turn(alloc, input, gate),
-        }
-    }
-
-    pub fn restart(&mut self, alloc: Global) -> Result<String, Stop> {
-        match self {
-            Node::Dispatcher(held) => held.restart(alloc),
-            Node::Server(held) => held.restart(alloc),
-            Node::Replica(held) => held.restart(alloc),
-            Node::Joiner(held) => held.restart(alloc),
-        }
-    }
-
-    pub fn asked(&self, alloc: Global) -> Result<String, Stop> {
-        match self {
-            Node::Dispatcher(held) => held.asked(alloc),
-            Node::Server(held) => held.asked(alloc),
-            Node::Replica(held) => held.asked(alloc),
-            Node::Joiner(held) => held.asked(alloc),
-        }
-    }
-
-    /// Its disks, in the order of their names.
-    pub fn into_disks(self, alloc: Global) -> Result<Vec<MemDisk>, Stop> {
-        match self {
-            Node::Dispatcher(held) => {
-                let (offset, retry, _log) = held.into_node().into_disks();
-                Ok(vec![in alloc; offset, retry]?)
-            }
-            Node::Server(held) => Ok(vec![in alloc; held.into_node().into_disk()]?),
-            Node::Replica(held) => Ok(vec![in alloc; held.into_node().into_disk()]?),
-            Node::Joiner(held) => {
-                let (epochs, pairs, _log) = held.into_node().into_disks();
-                Ok(vec![in alloc; epochs, pairs]?)
-            }
-        }
+/// Opens a node, plays its turns, and gives its disks in the order of their names. `dispatcher SITE JOINERS` is over the disks `offset` and
+/// `retry` and the log, `server SITE JOINERS HORIZON TABLE BATCH` over `epoch`, `replica NUMBER JOINERS` over `votes`, `joiner SITE JOINERS
+/// PLACE` over `epoch` and `output` and the log.
+pub fn play_node(
+    alloc: Global,
+    row: &Row<'_>,
+    turns: &[Row<'_>],
+    report: &mut Report,
+) -> Result<Vec<MemDisk>, Refused> {
+    let mut words = Words::new(row.command);
+    let kind = words.word()?;
+    let number = words.number()?;
+    let joiners = words.number()?;
+    let config = match kind {
+        "server" => config(joiners, words.number()?, words.word()?, words.number()?)?,
+        _ => config(joiners, 0, "0:1", 64)?,
+    };
+    let place = if kind == "joiner" { words.number()? } else { 0 };
+    let words = words.rest(alloc)?;
+    let outside = Outside {
+        alloc,
+        words,
+        row,
+        turns,
+    };
+    match kind {
+        "dispatcher" => dispatcher(number, config, &outside, report),
+        "server" => server(number, config, &outside, report),
+        "replica" => replica(number, config, &outside, report),
+        "joiner" => joiner(number, config, place, &outside, report),
+        _ => Err(Refused::Row(Stop::Words)),
     }
 }
 
 // Three replicas.
-fn config(joiners: u8, horizon: u64, table: &[u8], batch: u8) -> Result<Config, Stop>
-    ensures { IfOk result (λ config. (config.batch ≡ batch) × (config.replicas ≡ 3)) }
+fn config(joiners: u8, horizon: u64, table: &str, batch: u8) -> Result<Config, Stop>
+    ensures { IfOk result (λ config. (config.batch ≤ 64) × (config.replicas ≡ 3)) }
 {
-    match Table::read(table) {
+    if batch > 64 {
+        return Err(Stop::Words);
+    }
+    match Table::read(table.as_bytes()) {
         Ok(table) => Ok(Config {
             horizon,
             joiners,
@@ -179,7 +144,12 @@ fn config(joiners: u8, horizon: u64, table: &[u8], batch: u8) -> Result<Config, 
     }
 }
 
-fn dispatcher(site: u8, config: Config, outside: &Outside) -> Result<Node, Refused> {
+fn dispatcher(
+    site: u8,
+    config: Config,
+    outside: &Outside<'_>,
+    report: &mut Report,
+) -> Result<Vec<MemDisk>, Refused> {
     if site > 1 || config.joiners == 0 {
         return Err(Refused::Row(Stop::Words));
     }
@@ -192,47 +162,65 @@ fn dispatcher(site: u8, config: Config, outside: &Outside) -> Result<Node, Refus
         Ok(retry) => retry,
         Err((fault, _)) => return Err(Refused::Disk(fault)),
     };
-    let node = DispatchNode::new(alloc, site, config, offset, retry, outside.log()?);
-    Ok(Node::Dispatcher(Held::new(node)))
-}
-
-fn server(
-    alloc: Global,
-    site: u8,
-    joiners: u8,
-    text: Vec<u8>,
-    words: &mut Words<'_>,
-) -> Result<Node, Refused> {
-    let horizon = words.number()?;
-    let table = words.word()?;
-    let batch = words.number()?;
-    if site > 1 || batch > 64 {
-        return Err(Refused::Row(Stop::Words));
-    }
-    let config = config(joiners, horizon, table.as_bytes(), batch)?;
-    let outside = Outside::new(alloc, text, words)?;
-    let journal = match EpochJournal::open(alloc, outside.disk("epoch")?) {
-        Ok(journal) => journal,
-        Err((fault, _)) => return Err(Refused::Disk(fault)),
-    };
-    match ServerNode::new(alloc, site, config, journal) {
-        Ok(node) => Ok(Node::Server(Held::new(node))),
+    match dispatch_node(alloc, site, config, offset, retry, outside.log()?) {
+        Ok(node) => {
+            let node = outside.play(node, report)?;
+            let (offset, retry, _log) = dispatch_node::into_disks(node);
+            Ok(vec![in alloc; offset, retry]?)
+        }
         Err(_) => Err(Refused::Row(Stop::Memory)),
     }
 }
 
-fn replica(number: u8, config: Config, outside: &Outside) -> Result<Node, Refused> {
+fn server(
+    site: u8,
+    config: Config,
+    outside: &Outside<'_>,
+    report: &mut Report,
+) -> Result<Vec<MemDisk>, Refused>
+    requires { (config.batch ≤ 64) × (config.replicas ≡ 3) }
+{
+    if site > 1 {
+        return Err(Refused::Row(Stop::Words));
+    }
+    let alloc = outside.alloc;
+    let epochs = match EpochJournal::open(alloc, outside.disk("epoch")?) {
+        Ok(epochs) => epochs,
+        Err((fault, _)) => return Err(Refused::Disk(fault)),
+    };
+    match server_node(alloc, site, config, epochs) {
+        Ok(node) => {
+            let node = outside.play(node, report)?;
+            Ok(vec![in alloc; registry_server::into_disk(node)]?)
+        }
+        Err(_) => Err(Refused::Row(Stop::Memory)),
+    }
+}
+
+fn replica(
+    number: u8,
+    config: Config,
+    outside: &Outside<'_>,
+    report: &mut Report,
+) -> Result<Vec<MemDisk>, Refused> {
     let alloc = outside.alloc;
     match VoteJournal::open(alloc, outside.disk("votes")?) {
         Ok(votes) => {
-            let node = ReplicaNode::new(alloc, number, config, votes);
-            Ok(Node::Replica(Held::new(node)))
+            let node = replica_node(alloc, number, config, votes);
+            let node = outside.play(node, report)?;
+            Ok(vec![in alloc; replica_node::into_disk(node)]?)
         }
         Err((fault, _)) => Err(Refused::Disk(fault)),
     }
 }
 
-fn joiner(site: u8, config: Config, place: u8, outside: &Outside) -> Result<Node, Refused> {
+fn joiner(
+    site: u8,
+    config: Config,
+    place: u8,
+    outside: &Outside<'_>,
+    report: &mut Report,
+) -> Result<Vec<MemDisk>, Refused> {
     if site > 1 || place >= config.joiners {
         return Err(Refused::Row(Stop::Words));
     }
@@ -245,8 +233,12 @@ fn joiner(site: u8, config: Config, place: u8, outside: &Outside) -> Result<Node
         Ok(pairs) => pairs,
         Err((fault, _)) => return Err(Refused::Disk(fault)),
     };
-    match JoinerNode::new(alloc, site, place, config, epochs, pairs, outside.log()?) {
-        Ok(node) => Ok(Node::Joiner(Held::new(node))),
+    match joiner_node(alloc, site, place, config, epochs, pairs, outside.log()?) {
+        Ok(node) => {
+            let node = outside.play(node, report)?;
+            let (epochs, pairs, _log) = joiner_node::into_disks(node);
+            Ok(vec![in alloc; epochs, pairs]?)
+        }
         Err(_) => Err(Refused::Row(Stop::Memory)),
     }
 }

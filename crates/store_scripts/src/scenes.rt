@@ -2,7 +2,7 @@
 use crate::directories::Directories;
 use crate::disks::Disks;
 use crate::lent::Lent;
-use crate::nodes::Nodes;
+use crate::nodes::play_nodes;
 use crate::outsides::{Sinks, Sources};
 use crate::places::Places;
 use crate::stores::Stores;
@@ -19,12 +19,7 @@ pub fn play_scene(rt: &HostRuntime, scene: &Scene, report: &mut Report) -> Resul
         "places" => play(alloc, Places, scene, report),
         "lent disks" => play(alloc, Lent::new(alloc), scene, report),
         "stores" => play(alloc, Stores::new(alloc), scene, report),
-        "dispatchers" | "joiners" | "servers" | "replicas" => play(
-            alloc,
-            Nodes::new(alloc),
-            scene,
-            report,
-        ),
+        "dispatchers" | "joiners" | "servers" | "replicas" => play_nodes(alloc, scene, report),
         "directories" => play(alloc, Directories::new(rt), scene, report),
         _ => report.unknown(scene),
     }

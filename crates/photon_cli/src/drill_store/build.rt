@@ -55,6 +55,7 @@ fn add_stop(stops: &mut Vec<Stop>, stop: &PlanStop, joiners: u8) -> Result<(), A
 }
 
 // Adds one for the disk of this number, where the plan's stop is for it.
+#[tactic(auto, using(crate::proofs::Fuses::pushed))]
 fn add_disk(
     stops: &mut Vec<Stop>,
     stop: &PlanStop,

@@ -1,7 +1,6 @@
 // A bulk run: both logs are made from a seed, both sites run over them as in a drill, and the totals line is told.
 ghost use Rattle.std.specs.Prelude.{◌≡◌, ◌⊎◌, ℕ, List, IfErr, IfOk, IsErrAnd, IsSomeAnd, OnOk, Some, codes, string_bytes, IsTrue, Err};
-ghost use Rattle.photon_cli.specs.Terms.{AreBulkRanges, Counts, bulk_values};
-ghost use Rattle.mem_outside.specs.Files.{bytes_under};
+ghost use Rattle.photon_cli.specs.Terms.{AreBulkRanges, Counts, bulk_values, bytes_under};
 ghost use Rattle.bulk_logs.specs.Bulk.{query_log, click_log};
 ghost use Rattle.run_fault.specs.declared.fault.RunFault.TheVariants as fault;
 ghost use Rattle.photon_cli.specs.Bulk.{BeginsBulk, IsBulkRun, PrintsTotals, PrintsTotalsPrefix, bulk_plan, rule};

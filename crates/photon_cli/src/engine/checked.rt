@@ -1,12 +1,7 @@
 // The two logs, opened and checked whole.
 ghost use Rattle.std.specs.Prelude.{◌≡◌, ℕ, List, map, IfOk, IfErr, IsSomeAnd, IsTrue, Err};
-ghost use Rattle.photon_cli.specs.Terms.{Clicks, Counts, Queries};
-ghost use Rattle.log_records.specs.declared.records.QueryRec.{QueryRec as Query};
-ghost use Rattle.log_records.specs.declared.records.ClickRec.{ClickRec as Click};
-ghost use Rattle.log_records.specs.declared.why.Why.{Why as Reason};
-ghost use Rattle.log_records.specs.Check.{Refuses as LogRefuses};
+ghost use Rattle.photon_cli.specs.Terms.{ClickRec as Click, Clicks, Counts, LogName as LogKind, Queries, QueryRec as Query, Refuses as LogRefuses, Why as Reason};
 ghost use Rattle.photon_cli.specs.CheckedLogs.{EndsAt, IsChecked};
-ghost use Rattle.run_fault.specs.declared.fault.LogName.{LogName as LogKind};
 ghost use Rattle.run_fault.specs.declared.fault.RunFault.TheVariants as fault;
 ghost use Rattle.photon_cli.specs.Join.{AreLogs, Refuses};
 ghost use Rattle.photon_cli.specs.LogFaults.{IsLogFault, failed_read};

@@ -1,9 +1,6 @@
 // A drill: both sites run over a store in memory that is empty at first, and a plan says what goes wrong.
 ghost use Rattle.std.specs.Prelude.{◌≡◌, ◌⊎◌, ℕ, IfErr, IfOk, IfSome, IsErrAnd, IsTrue, OnOk, Err};
-ghost use Rattle.photon_cli.specs.Terms.{AreInRanges, Counts, PlanView, values_in};
-ghost use Rattle.lossy_link.specs.declared.bad_plan.Field.{Field as Place};
-ghost use Rattle.log_records.specs.declared.why.Why.{Why as Reason};
-ghost use Rattle.run_fault.specs.declared.fault.LogName.{LogName as LogKind};
+ghost use Rattle.photon_cli.specs.Terms.{AreInRanges, Counts, Field as Place, LogName as LogKind, PlanView, Why as Reason, values_in};
 ghost use Rattle.run_fault.specs.declared.fault.RunFault.TheVariants as fault;
 ghost use Rattle.photon_cli.specs.Drill.{BeginsDrill, Drills, HasDrilled, IsBadIn, IsPlanIn, PrintsDrill, PrintsDrillPrefix, SparesNodes};
 ghost use Rattle.photon_cli.specs.Join.{AreValid, IsHeardOf, Refuses};

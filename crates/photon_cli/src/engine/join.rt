@@ -1,8 +1,6 @@
 // The whole join.
 ghost use Rattle.std.specs.Prelude.{◌≡◌, ◌⊎◌, ℕ, IfErr, IfSome, IsErrAnd, OnOk, IsTrue, Err};
-ghost use Rattle.photon_cli.specs.Terms.{AreInRanges, Counts, EndsOver, NamesFailed, Rose, Setting, StorePlace, values_in};
-ghost use Rattle.log_records.specs.declared.why.Why.{Why as Reason};
-ghost use Rattle.run_fault.specs.declared.fault.LogName.{LogName as LogKind};
+ghost use Rattle.photon_cli.specs.Terms.{AreInRanges, Counts, EndsOver, LogName as LogKind, NamesFailed, Rose, Setting, StorePlace, Why as Reason, values_in};
 ghost use Rattle.run_fault.specs.declared.fault.RunFault.TheVariants as fault;
 ghost use Rattle.photon_cli.specs.LogFaults.{IsEarly, IsFailedRead, IsOfLogs, IsPast};
 ghost use Rattle.photon_cli.specs.Join.{BeginsJoin, HasRun, IsAsked, IsHistory, Prints, PrintsAfresh, PrintsPrefix, Refuses, no_plan};

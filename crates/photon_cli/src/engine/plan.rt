@@ -1,7 +1,6 @@
 // The plan of a drill, read from its file.
 ghost use Rattle.std.specs.Prelude.{◌≡◌, ◌⊎◌, ◌+◌, ℕ, List, take, IfErr, IfOk, IsErrAnd, IsSomeAnd, IsTrue, Err};
-ghost use Rattle.photon_cli.specs.Terms.{Counts, Read, size_limit};
-ghost use Rattle.lossy_link.specs.declared.bad_plan.Field.{Field as Place};
+ghost use Rattle.photon_cli.specs.Terms.{Counts, Field as Place, Read, size_limit};
 ghost use Rattle.run_fault.specs.declared.fault.RunFault.TheVariants as fault;
 ghost use Rattle.photon_cli.specs.Drill.{IsBadIn, IsPlanIn};
 ghost use Rattle.photon_cli.specs.LogFaults.{IsPlanFault, IsToldOfPlan};

@@ -9,6 +9,7 @@ use std::alloc::Global;
 const PIECE: usize = 1 << 16;
 
 /// The first bytes of the log, at most so many, which it reads in pieces of 64 KiB. It reads no byte behind them.
+#[tactic(auto, using(crate::proofs::ReadPieces::piece_next, crate::proofs::ReadPieces::last_piece, crate::proofs::ReadPieces::all_pieces))]
 pub fn read_front<L: LogFile>(alloc: Global, log: &mut L, most: usize) -> Result<Vec<u8>, OpenFault>
     ensures bytes { IsTrue L.tells → IfOk result (λ v. v.items ≡ take most (L.bytes log.old)) }
     ensures same { IsTrue L.tells → L.bytes log.new ≡ L.bytes log.old }

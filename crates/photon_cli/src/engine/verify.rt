@@ -1,11 +1,7 @@
 // A verification: no node runs, and what the disks keep is reported.
 ghost use Rattle.std.specs.Prelude.{◌≡◌, ◌⊎◌, ℕ, List, map, None, Some, IfErr, IfOk, OnOk, IsErrAnd, IsSomeAnd, IsTrue, Err, ⊤};
 ghost use Rattle.std.specs.List.{list_any};
-ghost use Rattle.photon_cli.specs.Terms.{Clicks, Counts, DiskName, IsSoundStore, IsWelcome, LeavesSomething, RefusesClick, Rose, Setting, ShardRow, StaysAs, U, distinct, end_from, is_missing};
-ghost use Rattle.log_records.specs.declared.records.ClickRec.{ClickRec as Click};
-ghost use Rattle.log_records.specs.declared.why.Why.{Why as Reason};
-ghost use Rattle.run_fault.specs.declared.fault.StorePlace.{StorePlace as Place};
-ghost use Rattle.topology_journal.specs.declared.topology.Topology.{Topology as KeptTopology};
+ghost use Rattle.photon_cli.specs.Terms.{ClickRec as Click, Clicks, Counts, DiskName, IsSoundStore, IsWelcome, LeavesSomething, RefusesClick, Rose, Setting, ShardRow, StaysAs, StorePlace as Place, Topology as KeptTopology, U, Why as Reason, distinct, end_from, is_missing};
 ghost use Rattle.verify_pass.specs.Classes.{line_of};
 ghost use Rattle.run_fault.specs.declared.fault.RunFault.TheVariants as fault;
 ghost use Rattle.photon_cli.specs.Causes.{CanBeRead, HasCauseInVerify, IsOverLog};

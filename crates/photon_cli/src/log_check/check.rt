@@ -1,7 +1,6 @@
 // Whole logs.
 ghost use Rattle.std.specs.Prelude.{◌≡◌, ◌≢◌, ◌<◌, ◌↔◌, List, length, Err, IfOk, IsErr, IsTrue};
-ghost use Rattle.photon_cli.specs.Terms.{Counts, MAX_LOG, Refuses};
-ghost use Rattle.log_records.specs.declared.check.BadLine.{BadLine as Bad};
+ghost use Rattle.photon_cli.specs.Terms.{BadLine as Bad, Counts, MAX_LOG, Refuses};
 ghost use Rattle.log_records.specs.declared.why.Why.TheVariants as why;
 ghost use Rattle.photon_cli.specs.declared.log_check.check.CheckFault.TheVariants as fault;
 ghost use Rattle.photon_cli.specs.CheckedLogs.{IsChecked};

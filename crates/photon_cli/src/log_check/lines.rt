@@ -1,7 +1,6 @@
 // The lines of a log, up to its last line feed.
 ghost use Rattle.std.specs.Prelude.{◌≡◌, ◌≢◌, ◌+◌, ◌++◌, ◌∷◌, [], List, ℕ, Err, IfOk, OnOk, IfErr, IsTrue, if◌then◌else◌};
-ghost use Rattle.photon_cli.specs.Terms.{Counts, Refuses};
-ghost use Rattle.log_records.specs.declared.check.BadLine.{BadLine as Bad};
+ghost use Rattle.photon_cli.specs.Terms.{BadLine as Bad, Counts, Refuses};
 ghost use Rattle.log_records.specs.declared.why.Why.TheVariants as reason;
 ghost use Rattle.photon_cli.specs.declared.log_check.check.CheckFault.TheVariants as fault;
 ghost use Rattle.photon_cli.specs.CheckedLogs.{AreLines};

@@ -1,9 +1,7 @@
 // The next line of a log.
 ghost use Rattle.std.specs.Prelude.{◌≡◌, ◌↔◌, ◌++◌, ◌∷◌, ◌≤◌, List, ℕ, length, take, IfOk, IsErr, IsTrue};
-ghost use Rattle.photon_cli.specs.Terms.{Counts, Keeps, Lacks, behind, line_feed};
-ghost use Rattle.tail_reader.specs.Next.{IsNext};
+ghost use Rattle.photon_cli.specs.Terms.{Counts, IsNext, Keeps, Lacks, MAX_LINE, behind, line_feed};
 ghost use Rattle.tail_reader.specs.declared.tail.Next.TheVariants as next;
-ghost use Rattle.log_records.specs.declared.lines.TheConstants.{MAX_LINE};
 ghost use Rattle.photon_cli.specs.ReadLines.{SoFar, IsStep};
 
 use event_id::EventId;

@@ -29,7 +29,7 @@ pub struct Built<D: Disk, L, N> {
 }
 
 /// Builds the nodes of both sites, down, over opened disks and logs. Where memory is wanting for one, all disks and logs come
-/// back. It takes memory for the servers and the joiners.
+/// back. It takes memory for all nodes but the replicas.
 pub fn build<D: Disk, L: LogFile, N: Making<D, L>>(
     alloc: Global,
     config: &Config,

@@ -2,18 +2,17 @@
 ghost use Rattle.std.specs.Prelude.{◌≡◌, ◌≤◌, ◌<◌, ◌+◌, ◌-◌, ◌*◌, ◌++◌, [], ◌∷◌, ℕ, List, map, length, vec_len, vec_capacity, refl};
 ghost use Rattle.outside.specs.declared.store.DiskName.TheVariants as name;
 ghost use Rattle.site_run.specs.Terms.{Config, Lent};
-ghost use Rattle.site_run.specs.Naming.{as_lent, all_from, of_dispatcher, of_server, of_replica, of_joiner, place_of, site_of, joiner_of};
+ghost use Rattle.site_run.specs.Naming.{as_lent, all_from, disks_by, joiner_of, place_of, site_of};
 ghost use Rattle.site_workers.specs.FourKinds as one;
 
 use crate::built::Parts;
-use crate::nodes::AnyNode;
+use crate::nodes::{AnyNode, SystemNode};
 use outside::{Disk, DiskName, LogFile};
-use site_node::SiteNode;
 use site_workers::OneOf;
 use turn_defs::Config;
 
 /// A kind of node that is taken apart into disks under their names, and logs.
-pub trait Parting<D, L>: SiteNode {
+pub trait Parting<D, L>: SystemNode {
     /// Its disks under the names that a node of this number has.
     ghost disks_of: { Config → ℕ → Self → List (Lent D) };
 
@@ -55,31 +54,36 @@ pub(crate) fn joiner_place(config: &Config, number: u8) -> (u8, u8)
 }
 
 impl<D: Disk, L: LogFile> Parting<D, L> for AnyNode<D, L> {
-    ghost disks_of = { λ config number. one.by
-        (λ d. of_dispatcher number d.journals.offset.journal.disk d.journals.retry.journal.disk) (λ s. of_server number s.journal.journal.disk)
-        (λ r. of_replica number r.journal.disk) (λ j. of_joiner config number j.disks.epochs.journal.disk j.disks.log.disk) };
+    ghost disks_of = { disks_by (record {
+      offset = λ d. d.records.offset.journal.disk;
+      retry = λ d. d.records.retry.journal.disk;
+      server = λ s. s.records.journal.journal.disk;
+      replica = λ r. r.records.journal.disk;
+      epochs = λ j. j.records.epochs.journal.disk;
+      outputs = λ j. j.records.log.disk;
+    }) };
 
-    ghost logs_of = { one.by (λ d. d.clicks.tail.log ∷ []) (λ s. []) (λ r. []) (λ j. j.joining.queries.store.tail.log ∷ []) };
+    ghost logs_of = { one.by (λ d. d.core.clicks.tail.log ∷ []) (λ s. []) (λ r. []) (λ j. j.core.queries.store.tail.log ∷ []) };
 
     ghost counted = { λ config number. one.counted _ _ _ _ _ _ _ _ (λ d. refl) (λ s. refl) (λ r. refl) (λ j. refl) };
 
     fn part(self, config: &Config, number: u8, parts: &mut Parts<D, L>) {
         match self {
             OneOf::First(node) => {
-                let (offset, retry, log) = node.into_disks();
+                let (offset, retry, log) = dispatch_node::into_disks(node);
                 parts.put(DiskName::Offset(number), offset);
                 parts.put(DiskName::Retry(number), retry);
                 parts.logs.push_reserved(log);
             }
             OneOf::Second(node) => {
-                parts.put(server_disk(number), node.into_disk());
+                parts.put(server_disk(number), registry_server::into_disk(node));
             }
             OneOf::Third(node) => parts.put(
                 DiskName::Replica(number.saturating_sub(4)),
-                node.into_disk(),
+                replica_node::into_disk(node),
             ),
             OneOf::Fourth(node) => {
-                let (epochs, outputs, log) = node.into_disks();
+                let (epochs, outputs, log) = joiner_node::into_disks(node);
                 let (site, joiner) = joiner_place(config, number);
                 parts.put(DiskName::Epoch(site, joiner), epochs);
                 parts.put(DiskName::Output(site, joiner), outputs);

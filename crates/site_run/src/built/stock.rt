@@ -5,11 +5,11 @@ ghost use Rattle.site_run.specs.Naming.{count_of};
 use crate::built::taking::{take_disk, take_last};
 use crate::built::{Logs, Parting, Parts, joiner_place};
 use crate::nodes::{AnyNode, SystemNode};
-use dispatch_node::DispatchNode;
-use joiner_node::JoinerNode;
+use dispatch_node::dispatch_node;
+use joiner_node::joiner_node;
 use outside::{Disk, DiskName, LogFile};
-use registry_server::ServerNode;
-use replica_node::ReplicaNode;
+use registry_server::server_node;
+use replica_node::replica_node;
 use site_node::SiteNode;
 use site_store::OpenDisk;
 use site_workers::OneOf;
@@ -33,17 +33,24 @@ impl<D: Disk, L: LogFile> Stock<D, L> {
     ghost use Rattle.site_run.specs.Making.{AreFrom, Makes, view_of};
 
     // The dispatcher of a site, down, over its journals and the click log.
-    fn dispatcher(&mut self, number: u8) -> AnyNode<D, L>
+    fn dispatcher(&mut self, number: u8) -> Option<AnyNode<D, L>>
         requires number { number < 2 }
         requires left { AreFrom number (view_of self.old) }
         ensures { Makes ⟦<AnyNode<D, L> as SiteNode>⟧.number ⟦<AnyNode<D, L> as SiteNode>⟧.waits ⟦<AnyNode<D, L> as SystemNode>⟧.places ⟦<AnyNode<D, L> as Parting<D, L>>⟧.disks_of ⟦<AnyNode<D, L> as Parting<D, L>>⟧.logs_of
-            D.tells L.bytes number (view_of self.old) (Some result) (view_of self.new) }
+            D.tells L.bytes number (view_of self.old) result (view_of self.new) }
     {
         let offset = take_disk(&mut self.rest, DiskName::Offset(number)).into_offset();
         let retry = take_disk(&mut self.rest, DiskName::Retry(number)).into_retry();
         let log = take_last(&mut self.logs.clicks);
-        let node = DispatchNode::new(self.alloc, number, self.config, offset, retry, log);
-        OneOf::First(node)
+        match dispatch_node(self.alloc, number, self.config, offset, retry, log) {
+            Ok(node) => Some(OneOf::First(node)),
+            Err((offset, retry, log)) => {
+                self.parts.put(DiskName::Offset(number), offset.into_disk());
+                self.parts.put(DiskName::Retry(number), retry.into_disk());
+                self.parts.logs.push_reserved(log);
+                None
+            }
+        }
     }
 
     // The server of a site, down, over its journal.
@@ -55,7 +62,7 @@ impl<D: Disk, L: LogFile> Stock<D, L> {
     {
         let site = number - 2;
         let journal = take_disk(&mut self.rest, DiskName::Server(site)).into_epochs();
-        match ServerNode::new(self.alloc, site, self.config, journal) {
+        match server_node(self.alloc, site, self.config, journal) {
             Ok(node) => Some(OneOf::Second(node)),
             Err(journal) => {
                 self.parts.put(DiskName::Server(site), journal.into_disk());
@@ -72,7 +79,7 @@ impl<D: Disk, L: LogFile> Stock<D, L> {
             D.tells L.bytes number (view_of self.old) (Some result) (view_of self.new) }
     {
         let votes = take_disk(&mut self.rest, DiskName::Replica(number - 4)).into_votes();
-        let node = ReplicaNode::new(self.alloc, number - 4, self.config, votes);
+        let node = replica_node(self.alloc, number - 4, self.config, votes);
         OneOf::Third(node)
     }
 
@@ -87,7 +94,7 @@ impl<D: Disk, L: LogFile> Stock<D, L> {
         let epochs = take_disk(&mut self.rest, DiskName::Epoch(site, place)).into_epochs();
         let outputs = take_disk(&mut self.rest, DiskName::Output(site, place)).into_output();
         let log = take_last(&mut self.logs.queries);
-        match JoinerNode::new(self.alloc, site, place, self.config, epochs, outputs, log) {
+        match joiner_node(self.alloc, site, place, self.config, epochs, outputs, log) {
             Ok(node) => Some(OneOf::Fourth(node)),
             Err((_, epochs, outputs, log)) => {
                 self.parts
@@ -102,7 +109,7 @@ impl<D: Disk, L: LogFile> Stock<D, L> {
 }
 
 /// A kind of node that is made, down, of what there is for its number.
-pub trait Making<D: Disk, L: LogFile>: SystemNode + Parting<D, L> {
+pub trait Making<D: Disk, L: LogFile>: Parting<D, L> {
     ghost use Rattle.std.specs.Prelude.{◌<◌};
     ghost use Rattle.site_run.specs.Making.{AreFrom, Makes, view_of};
 
@@ -116,7 +123,7 @@ pub trait Making<D: Disk, L: LogFile>: SystemNode + Parting<D, L> {
 impl<D: Disk, L: LogFile> Making<D, L> for AnyNode<D, L> {
     fn make(stock: &mut Stock<D, L>, number: u8) -> Option<AnyNode<D, L>> {
         if number < 2 {
-            Some(stock.dispatcher(number))
+            stock.dispatcher(number)
         } else if number < 4 {
             stock.server(number)
         } else if u16::from(number) < 4 + u16::from(stock.config.replicas) {

@@ -7,6 +7,7 @@ use outside::{Disk, DiskName};
 use site_store::OpenDisk;
 
 /// Takes the disk of this name out of the others.
+#[tactic(auto, using(crate::proofs::Making::taken_is))]
 pub(crate) fn take_disk<D: Disk>(disks: &mut Vec<OpenDisk<D>>, name: DiskName) -> OpenDisk<D>
     requires there { Mem name (map (λ o. o.name) disks.old.items) }
     ensures name { result.name ≡ name }

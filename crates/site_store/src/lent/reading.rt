@@ -1,7 +1,6 @@
 // Reading disks back.
 ghost use Rattle.std.specs.Prelude.{◌≡◌, ◌++◌, IsTrue, IfOk, IfErr, OnOk};
-ghost use Rattle.output_log.specs.Pairs.{Keeps as KeepsPairs};
-ghost use Rattle.site_store.specs.Terms.{KeepsNotes};
+ghost use Rattle.site_store.specs.Terms.{KeepsNotes, KeepsPairs};
 ghost use Rattle.site_store.specs.ReadBack.{EachWith, OneWith, replicas, outputs, notes_in, pairs_in, AreReadFrom, AreAmongImages, IsReadAs, IsAnImage, IsOnlyRead, IsToldBy};
 
 use crate::disks::opening::told;

@@ -1,11 +1,7 @@
 // A store opened for a run of both sites.
 ghost use Rattle.std.specs.Prelude.{◌≡◌, ◌≢◌, ◌≤◌, ◌+◌, ◌∷◌, Bool, length, map, Some, Option, IsTrue, true, IfOk, IfErr, OnErr};
-ghost use Rattle.site_store.specs.Terms.{AreLeft, DiskName, Disks, GoesOn, IsLogOf, IsSoundStore, IsTopology, IsWelcome, Rose, Setting, StaysAs, WholeSound, end_from};
+ghost use Rattle.site_store.specs.Terms.{AreLeft, DiskName, Disks, GoesOn, IsLogOf, IsSoundStore, IsTopology, IsWelcome, KeptTopology, OfDisk, Rose, Setting, StaysAs, StoreFailed, StoreTopology, WholeSound, end_from, topology_of};
 ghost use Rattle.outside.specs.declared.store.DiskName.TheVariants as name;
-ghost use Rattle.topology_journal.specs.declared.topology.Topology.{Topology as KeptTopology};
-ghost use Rattle.photon_model.specs.Topology.{Topology as StoreTopology, topology_of};
-ghost use Rattle.run_fault.specs.declared.fault.StorePlace.TheVariants.{Disk as OfDisk};
-ghost use Rattle.run_fault.specs.declared.fault.RunFault.TheVariants.{Store as StoreFailed};
 ghost use Rattle.site_store.specs.Refusals.{other_names};
 ghost use Rattle.site_store.specs.Plans.{AreAsPlanned, IsByPlan};
 ghost use Rattle.site_store.specs.Records.{AreKept, AreRecordsOf, values_of, kept_all, lent_all, topology_lent};

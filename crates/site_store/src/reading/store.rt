@@ -1,7 +1,6 @@
 // A store read for verification.
 ghost use Rattle.std.specs.Prelude.{◌≡◌, ◌≤◌, Some, None, IsTrue, IfOk, IfErr};
-ghost use Rattle.site_store.specs.Terms.{DiskName, GoesOn, IsLogOf, IsSoundStore, IsWelcome, Rose, Setting, StaysAs, end_from};
-ghost use Rattle.topology_journal.specs.declared.topology.Topology.{Topology as KeptTopology};
+ghost use Rattle.site_store.specs.Terms.{DiskName, GoesOn, IsLogOf, IsSoundStore, IsWelcome, KeptTopology, Rose, Setting, StaysAs, end_from};
 ghost use Rattle.site_store.specs.Leaving.{IsAsked};
 ghost use Rattle.site_store.specs.Causes.{IsCause, LeavesSomething};
 ghost use Rattle.site_store.specs.Reading.{IsRead};

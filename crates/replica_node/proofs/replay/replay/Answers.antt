@@ -1,6 +1,6 @@
 use Rattle.std.proofs.Common.{◌≡◌, List, [], ◌∷◌, ◌++◌, ◌+◌, take, get_or, ap, sym, ◌∙◌, subst, arith}
-use Rattle.replica_node.proofs.Words.{take_more, take_all, ReplicaNote, ReplicaKept, Knows, kept_of}
-use Rattle.replica_node.proofs.Noting.{with_note, knows_note, kept_push}
+use Rattle.replica_node.proofs.Words.{take_more, take_all, ReplicaNote, ReplicaKept, Knows, kept_of, with_note}
+use Rattle.replica_node.proofs.Noting.{knows_note, kept_push}
 use Rattle.replica_node.proofs.replay.replay.Goals as goal
 
 pub loop-note-preserved : goal.loop-note-preserved

@@ -1,25 +1,21 @@
-use Rattle.site_run.proofs.Going.{one_on, reached_on}
-use Rattle.site_run.proofs.Holding.{all_tell, holds_as}
-use Rattle.site_run.proofs.Resting.{keeps_as, dispatcher_rests, server_rests, replica_rests, joiner_rests}
+use Rattle.std.proofs.Common.{subst}
+use Rattle.site_run.proofs.Words.{DispatcherKept, KeepsOffset, KeepsPending, KeepsVotes, ready_states}
+use Rattle.site_run.proofs.Holding.{all_tell, are_held, doubted_votes, held_votes, keeps_at_rest, may_keep, rests}
 use Rattle.site_run.proofs.disk_laws.all_held.Goals as goal
 
 pub returns : goal.returns
 returns g c = λ disk_tells log_tells.
-    let image = g.D.Disk.image in
-    record {
-      held = λ config n t v at.
-          holds_as image (λ d. d.journals.offset.journal.disk) (λ d. d.journals.retry.journal.disk) (λ s. s.journal.journal.disk) (λ r. r.journal.disk) (λ j. j.disks.epochs.journal.disk) (λ j. j.disks.log.disk) _ _ _ _
-          c.read.ensures.states (λ d s here. here.spelled) config n t v (λ s. c.images.ensures v s (all_tell g.D.Disk.tells g.L.LogFile.tells disk_tells log_tells)) at;
-      rested = λ config n t v closed at.
-          keeps_as image (λ d. d.journals.offset.journal.disk) (λ d. d.journals.retry.journal.disk) (λ s. s.journal.journal.disk) (λ r. r.journal.disk) (λ j. j.disks.epochs.journal.disk) (λ j. j.disks.log.disk) _ _ _ _
-          (record {
-            dispatchers = λ d s here none. dispatcher_rests _ (image d.journals.offset.journal.disk) (image d.journals.retry.journal.disk) s none here (d.journals.offset.durable disk_tells) (d.journals.retry.durable disk_tells);
-            servers = λ d s here none. server_rests (image d.journal.journal.disk) _ _ _ _ _ s none here;
-            replicas = λ d s here none. replica_rests (image d.journal.disk) _ _ _ _ _ _ s none here;
-            joiners = λ d s here none. joiner_rests _ (image d.disks.epochs.journal.disk) (image d.disks.log.disk) s none here;
-          }) config n t v closed at;
-      gone_on = λ config number k v w.
-          reached_on image _ _
-          (λ x y. one_on image (λ d. d.journals.offset.journal.disk) (λ d. d.journals.retry.journal.disk) (λ s. s.journal.journal.disk) (λ r. r.journal.disk) (λ j. j.disks.epochs.journal.disk) (λ j. j.disks.log.disk) config number x y)
-          k v w;
-    }
+    are_held (record { offset = λ d. d.records.offset.journal.disk; retry = λ d. d.records.retry.journal.disk; server = λ s. s.records.journal.journal.disk; replica = λ r. r.records.journal.disk; epochs = λ j. j.records.epochs.journal.disk; outputs = λ j. j.records.log.disk }) g.D.Disk.image _ _ _ _
+    (λ v s at b here. may_keep _ _ _ (λ k. KeepsVotes k b) _ _ _ s (held_votes c.read.ensures.notes v.records b here disk_tells) (doubted_votes c.read.ensures.notes v.records b here) at)
+    (λ v s. c.images.ensures v s (all_tell g.D.Disk.tells g.L.LogFile.tells disk_tells log_tells))
+    (record {
+      dispatchers = λ v s at closed.
+          let holds = rests _ _ _ _ _ _ s closed at in
+          let ready = ready_states v.records holds.ready in (
+            λ b here. subst (λ (k : DispatcherKept). KeepsOffset k.offset b) holds.is (v.records.offset.durable disk_tells ready.0 b here),
+            λ b here. subst (λ (k : DispatcherKept). KeepsPending k.pending b) holds.is (v.records.retry.durable disk_tells ready.1 b here),
+          );
+      servers = λ v s at closed. keeps_at_rest _ _ _ _ _ _ s disk_tells closed at;
+      replicas = λ v s at closed b here. held_votes c.read.ensures.notes v.records b here disk_tells s.kept (rests _ _ _ _ _ _ s closed at);
+      joiners = λ v s at closed. let holds = rests _ _ _ _ _ _ s closed at in (holds.epochs, holds.pairs);
+    })

@@ -1,5 +1,5 @@
 use Rattle.std.proofs.Common.{◌≡◌, take}
-use Rattle.site_store.specs.Records.{kept_all}
+use Rattle.site_run.proofs.Words.{kept_all}
 use Rattle.site_run.proofs.run.kept_by_all.Given as goal
 
 -- the disks so far are told

@@ -1,13 +1,8 @@
 use Rattle.std.proofs.Common.{◌≡◌, ◌∷◌, [], ℕ, List, arith, length-append, true, None, Some, inl, refl, sym, ◌∙◌, ap, subst, length, map, IfErr, IfSome, IsTrue}
-use Rattle.outside.specs.declared.store.DiskName.TheVariants as name
 use Rattle.run_fault.specs.declared.fault.RunFault.TheVariants as fault
-use Rattle.site_store.specs.Plans.{IsAsPlanned, Left}
-use Rattle.site_store.proofs.Planned.{calm_by_plan, each_calm, spared}
-use Rattle.site_run.specs.Making.{IsStart}
-use Rattle.site_run.proofs.Words.{IfErr-weaker, length-map, Mem, mem_right, DiskName, Topology, Store, Setting, IsLogOf, Rose, topology_of, IsAsked, IsSettingOver, MayBeLeft, kept_all, lent_all, topology_lent, as_lent, values_of, other_names, records_of, names_kept, KeepsItsRecord, IsCounted, IsCauseOf, IsOfRun, NamesFailed, RunLeft}
+use Rattle.site_run.proofs.Words.{IfErr-weaker, length-map, length_permutation, lent_by, Mem, mem_right, DiskName, Topology, Store, Setting, IsLogOf, Rose, topology_of, IsAsked, IsSettingOver, MayBeLeft, kept_all, lent_all, topology_lent, as_lent, values_of, other_names, records_of, names_kept, KeepsItsRecord, IsCounted, IsCauseOf, IsOfRun, NamesFailed, RunLeft, IsAsPlanned, Left, calm_by_plan, each_calm, spared, IsStart, TopologyDisk}
 use Rattle.site_run.proofs.Counting.{rose_before, some_rose}
 use Rattle.site_run.proofs.Holding.{all_tell}
-use Rattle.site_run.proofs.Opened.{as_many, as_many_with, may_same, out_same}
 use Rattle.site_run.proofs.Outing.{each_moved, moved_out, may_moved, may_behind, given_goes_on}
 use Rattle.site_run.proofs.Entering.{records_so, places_so, all_apart, out_so, keeps_so, other_stays, still_sound}
 use Rattle.site_run.proofs.Entered.{run_left, rest_left, rest_earlier, run_sound, none_left, counted_more, last_of, over_back}
@@ -15,11 +10,7 @@ use Rattle.site_run.proofs.Refusing.{on_ok_of, err_both, passed_so, refused_so, 
 use Rattle.site_run.proofs.Planning.{none_planned, planned_earlier}
 use Rattle.site_run.proofs.run.run_over.Given.{Over}
 use Rattle.site_run.proofs.run.run_over.Goals as goal
-use Rattle.site_run.proofs.run.run_over.Goals.{After-build, After-open_store}
-
--- the log that is read is the setting's
-first_log : (g : Over) (c : After-open_store g) (gg : Setting) → IsSettingOver g.F.Log.LogFile.bytes c.args.logs.clicks.items c.args.logs.queries.items c.args.config.now c.args.end gg → IsLogOf (g.F.Log.LogFile.bytes c.take_last-read.result) gg
-first_log g c gg is = last_of (λ l. IsLogOf (g.F.Log.LogFile.bytes l) gg) c.args.logs.clicks.items c.take_last-read.new.logs.items c.take_last-read.result c.take_last-read.ensures.items is.logs.clicks_are
+use Rattle.site_run.proofs.run.run_over.Goals.{After-build}
 
 -- the nodes are built over the setting's logs, and over the records that the opened disks keep
 start : (g : Over) (c : After-build g) → IsTrue g.F.Log.LogFile.tells → (gg : Setting) → IsSettingOver g.F.Log.LogFile.bytes c.args.logs.clicks.items c.args.logs.queries.items c.args.config.now c.args.end gg
@@ -28,7 +19,7 @@ start g c log_tells gg is =
     let disks = c.in-Ok.opened.disks.items in
     let o = c.in-Ok.ensures in
     let records = records_so disks _ _ o.named gg (ap (λ k. k.replicas) is.logs.numbers) (ap (λ k. k.joiners) is.logs.numbers) o.kept.1.kinds in
-    let first = last_of (λ l. IsLogOf (g.F.Log.LogFile.bytes l) gg) c.args.logs.clicks.items c.take_last-read.new.logs.items c.take_last-read.result c.take_last-read.ensures.items is.logs.clicks_are in
+    let first : IsLogOf (g.F.Log.LogFile.bytes c.take_last-read.result) gg = last_of _ _ _ _ c.take_last-read.ensures.items is.logs.clicks_are in
     record {
       logs = over_back g.F.Log.LogFile.bytes c.args.config.now gg c.args.logs.clicks.items c.take_last-read.new.logs.items c.push_reserved-2.new.self.items c.args.logs.queries.items c.take_last-read.result c.open_store.new.clicks c.take_last-read.ensures.items c.push_reserved-2.ensures.items
           (subst (λ b. IsLogOf b gg) (sym (o.same log_tells)) first) is.logs;
@@ -47,14 +38,13 @@ build-requires-clause-logs g c =
 pub run_system-requires-clause-places : goal.run_system-requires-clause-places
 run_system-requires-clause-places g c κs within =
     let disks = c.in-Ok.opened.disks.items in
-    omega (arith, as_many {D = g.row.S-Disk.Denot} disks _ c.in-Ok-build.ensures.held, c.in-Ok.ensures.places)
+    omega (arith, length_permutation _ _ c.in-Ok-build.ensures.held, length-map disks (lent_by {D = g.row.S-Disk.Denot}), c.in-Ok.ensures.places)
 
 pub give_parts-requires-after_bounds : goal.give_parts-requires-after_bounds
 give_parts-requires-after_bounds g c =
     let disks = c.in-Ok.opened.disks.items in
     let back = c.in-Err-build.parts.disks.items in
-    let many = as_many_with {D = g.row.S-Disk.Denot} disks (map as_lent back) _ c.in-Err-build.ensures.disks in
-    omega (arith, many, length-map back as_lent, c.in-Ok.ensures.places)
+    omega (arith, length_permutation _ _ c.in-Err-build.ensures.disks, length-map disks (lent_by {D = g.row.S-Disk.Denot}), length-map back as_lent, c.in-Ok.ensures.places)
 
 pub returns-clause-cause : goal.returns-clause-cause
 returns-clause-cause g c =
@@ -80,7 +70,7 @@ returns-clause-over g c tells log_tells gg checked is =
     let all_kept = kept_all {D = g.row.S-Disk.Denot} d.disks.items in
     let built = records_of gg all_kept in
     let begun = start g (goal.at.returns-clause-over g c).After-build log_tells gg is in
-    let first = first_log g (goal.at.returns-clause-over g c).After-open_store gg is in
+    let first : IsLogOf (g.F.Log.LogFile.bytes c.take_last-read.result) gg = last_of _ _ _ _ c.take_last-read.ensures.items is.logs.clicks_are in
     let out = out_so asked_of image before inside topology others (o.lent tells) in
     let apart = all_apart d.disks.items _ _ o.named in
     let were = o.were_left tells gg built asked (ap (λ k. k.replicas) is.logs.numbers) begun.records in
@@ -92,10 +82,10 @@ returns-clause-over g c tells log_tells gg checked is =
     let node_tells = all_tell g.S.Disk.Disk.tells g.F.Log.LogFile.tells tells log_tells in
     let held = c.all_held.ensures tells log_tells in
     let down = c.in-Ok-build.ensures.places tells gg built begun in
-    let same = ap (λ x. topology_lent {D = g.row.S-Disk.Denot} x) (c.into_disk.ensures ∙ ap (λ t. t.journal.disk) c.in-Ok-build.ensures.topology) in
-    let keeps = subst (λ t. KeepsItsRecord image gg t) (sym same) (keeps_so asked_of image before inside topology others (o.lent tells) gg asked refl) in
+    let same = sym (ap (λ x. topology_lent {D = g.row.S-Disk.Denot} x) (c.into_disk.ensures ∙ ap (λ t. t.journal.disk) c.in-Ok-build.ensures.topology)) in
+    let keeps = subst (λ t. KeepsItsRecord image gg t) same (keeps_so asked_of image before inside topology others (o.lent tells) gg asked refl) in
     let idle : c.run_system.new.ran.log ≡ None → (disk : DiskName) (b : List ℕ) → after disk b → MayBeLeft image inside (topology ∷ others) disk b
-    = λ none disk b now. may_behind image inside topology others _ c.in-Ok-build.ensures.held disk b (may_same image inside _ _ _ disk b same (run.idle tells none disk b now)) in
+    = λ none disk b now. may_behind image inside topology _ others _ same c.in-Ok-build.ensures.held disk b (run.idle tells none disk b now) in
     let nodes = run.over tells node_tells gg built is.logs.numbers held c.all_met.ensures down keeps in
     let whole : IfErr c.run_system.result (IsOfRun gg built from_there c.run_system.new.ran.log) = nodes.named in
     let named = names_kept d.disks.items ∙ o.named ∙ ap (λ n. other_names n c.args.config.now.replicas) (sym (ap (λ k. k.joiners) is.logs.numbers)) ∙ ap (other_names gg.config.joiners) (sym (ap (λ k. k.replicas) is.logs.numbers)) in
@@ -107,7 +97,7 @@ returns-clause-over g c tells log_tells gg checked is =
               run_sound c.run_system.new.ran.log gg after (record { topology = Some (topology_of gg); disks = built; is_used = sure.0 }) checked sure.1 refl (c.run.ensures gg c.run_system.new.store)
               (λ none. still_sound asked_of image before inside topology others (o.lent tells) refl apart after (idle none) gg asked (c.topology_first.ensures gg c.args.store.now c.run_system.new.store) sound)
               (nodes.left built (λ n among. refl));
-          grown = nodes.grown c.args.store.now (out_same image before inside _ _ _ (sym same) (moved_out image before inside topology others _ c.in-Ok-build.ensures.held out));
+          grown = nodes.grown c.args.store.now (moved_out image before inside topology _ others _ same c.in-Ok-build.ensures.held out);
         };
         idle = λ none disk other. other_stays asked_of image before inside topology others (o.lent tells) refl apart after (idle none) disk other;
         passed = on_ok_of c.run_system.result (passed_so gg before asked_of asked _ (ap (λ k. k.replicas) is.logs.numbers) g.S.Disk.Disk.tells g.F.Log.LogFile.tells tells log_tells (g.F.Log.LogFile.bytes c.take_last-read.result) c.args.end first is.ends (values_of {D = g.row.S-Disk.Denot} o.kept.0 d.disks.items) o.kept.1 o.kept.2);
@@ -157,7 +147,7 @@ returns-in-Err-clause-over g c tells log_tells gg checked is =
     let e = c.in-Err.ensures in
     let asked_of : Topology = record { joiners = c.args.config.now.joiners; table = c.args.config.now.table } in
     let asked : IsAsked asked_of gg = record { joiners = ap (λ k. k.joiners) is.logs.numbers; table = ap (λ k. k.table) is.logs.numbers } in
-    let first = first_log g (goal.at.returns-in-Err-clause-over g c).After-open_store gg is in
+    let first : IsLogOf (g.F.Log.LogFile.bytes c.take_last-read.result) gg = last_of _ _ _ _ c.take_last-read.ensures.items is.logs.clicks_are in
     let before = g.S.Store.image c.args.store.now in
     let logs_rose = Rose (g.F.Source.faults c.args.files.now) (g.F.Source.faults c.shut_logs.new.files) in
     let disks_rose = Rose (g.S.Store.faults c.args.store.now) (g.S.Store.faults c.open_store.new.store) in
@@ -198,7 +188,7 @@ returns-clause-stops g c planned log_tells gg checked is =
     planned_earlier _ _ _ _ _ gg _ _ _ _ (λ disk k few. few) (λ disk soon. soon) (λ none. (c.in-Ok.ensures.plan planned).still)
     (c.run_system.ensures.stops planned (c.all_planned.ensures.planned planned) gg _ c.args.store.now is.logs.numbers (c.all_held.ensures tells log_tells) (c.in-Ok-build.ensures.places tells gg _ (start g (goal.at.returns-clause-stops g c).After-build log_tells gg is))
     (c.all_planned.ensures.disks planned) refl
-    (subst (IsAsPlanned disk.stops disk.made disk.faults (left name.Topology)) (sym same) all.0, each_moved (λ l. IsAsPlanned disk.stops disk.made disk.faults (left l.name) l.disk) _ _ c.in-Ok-build.ensures.held all.1))
+    (subst (IsAsPlanned disk.stops disk.made disk.faults (left TopologyDisk)) (sym same) all.0, each_moved (λ l. IsAsPlanned disk.stops disk.made disk.faults (left l.name) l.disk) _ _ c.in-Ok-build.ensures.held all.1))
 
 pub returns-in-Err-build-clause-stops : goal.returns-in-Err-build-clause-stops
 returns-in-Err-build-clause-stops g c planned log_tells gg checked is =

@@ -1,11 +1,9 @@
 use Rattle.std.proofs.Common.{◌∙◌, ap, Err, sym, subst}
-use Rattle.site_run.proofs.Words.{IsCounted, IsWelcome, IsCauseOf, Rose}
+use Rattle.site_run.proofs.Words.{IsCounted, IsWelcome, IsCauseOf, Rose, HasSoon, Left, same_left}
 use Rattle.site_run.proofs.Refusing.{place_cause, place_spared, place_unnamed}
 use Rattle.site_run.proofs.Counting.{rose_before}
 use Rattle.site_run.proofs.Entered.{over_so, checked_so, place_counted, place_welcome}
 use Rattle.site_run.proofs.Earlier.{not_begun, ran_earlier}
-use Rattle.site_store.specs.Plans.{HasSoon, Left}
-use Rattle.site_store.proofs.Planned.{same_left}
 use Rattle.site_run.proofs.Planning.{planned_earlier, soon_earlier}
 use Rattle.site_run.proofs.run.run_sites.Goals as goal
 

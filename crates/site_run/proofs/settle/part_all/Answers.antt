@@ -1,7 +1,6 @@
 use Rattle.std.proofs.Common.{◌≡◌, suc, ◌∙◌, refl, length, ap, arith}
 use Rattle.site_run.proofs.Words.{first_fault}
-use Rattle.site_run.proofs.Lists.{parted}
-use Rattle.site_run.proofs.Faulting.{faulted}
+use Rattle.site_run.proofs.Lists.{faulted, parted}
 use Rattle.site_run.proofs.settle.part_all.Goals as goal
 
 pub loop-left-preserved : goal.loop-left-preserved

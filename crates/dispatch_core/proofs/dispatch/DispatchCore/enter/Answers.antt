@@ -1,5 +1,5 @@
-use Rattle.std.proofs.Common.{refl, ◌≡◌, ◌∷◌, [], Some, sym, ◌∙◌, true, false, subst, arith}
-use Rattle.dispatch_core.proofs.Words.{IfOk-weaker, cond-true, cond-false, has, takes, Take, Click, Sends}
+use Rattle.std.proofs.Common.{refl, ◌≡◌, ◌∷◌, [], Some, sym, ◌∙◌, false, subst, arith}
+use Rattle.dispatch_core.proofs.Words.{IfOk-weaker, cond-false, has, takes, Take, Click, Sends}
 use Rattle.dispatch_core.proofs.Rows.{row_of, as_out, entered_live}
 use Rattle.dispatch_core.proofs.dispatch.DispatchCore.enter.Goals as goal
 
@@ -16,14 +16,3 @@ returns-clause-turn c = λ g k l s here later.
     (row_of g core k l turn (Take f) ((line.position, line.click) ∷ []) _ s.of_setting (subst (λ (x : Click). Sends core turn (Take f) ((line.position, x) ∷ [])) c.in_ok-shared.ensures sends) refl refl (entered_live l f line.position line.end line.click false e.position e.end e.click e.done)
     (s, e.position ∙ sym here, omega (arith, later, e.position, e.end))))
     c.joining.ensures
-
-pub returns-then-contains-clause-turn : goal.returns-then-contains-clause-turn
-returns-then-contains-clause-turn c = λ g k l s here later.
-    let core = c.args.self.now in
-    let line = c.args.line in
-    let f = c.new-done.result in
-    let e = c.new-done.ensures in
-    let old : has k.pending line.position ≡ true = sym (s.pending line.position) ∙ sym c.contains.ensures ∙ c.if-contains.true in
-    as_out g core k l c.quiet.result _ (takes g core.dealer.site k l (Some (record { place = line.position; end_ = line.end; click = line.click }))) (cond-true (has k.pending line.position) _ _ old)
-    (row_of g core k l c.quiet.result (Take f) [] _ s.of_setting c.quiet.ensures refl refl (entered_live l f line.position line.end line.click true e.position e.end e.click e.done)
-    (s, e.position ∙ sym here, omega (arith, later, e.position, e.end)))

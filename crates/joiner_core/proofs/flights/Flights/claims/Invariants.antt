@@ -1,5 +1,5 @@
 use Rattle.std.proofs.Common.{◌≡◌, ◌++◌, map}
-use Rattle.joiner_core.specs.Flying.{flights, claim_to}
+use Rattle.joiner_core.proofs.Words.{flights, claim_to}
 use Rattle.joiner_core.proofs.Flying.{flight_at}
 use Rattle.joiner_core.proofs.flights.Flights.claims.Given as goal
 

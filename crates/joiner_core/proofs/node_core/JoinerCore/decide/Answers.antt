@@ -1,6 +1,6 @@
-use Rattle.std.proofs.Common.{ap, subst, ◌∙◌}
+use Rattle.std.proofs.Common.{subst}
 use Rattle.joiner_core.specs.declared.input.JoinerInput.{JoinerInput}
-use Rattle.joiner_core.specs.Standing.{IsReady, Carries}
+use Rattle.joiner_core.proofs.Words.{IsReady, Carries}
 use Rattle.joiner_core.proofs.Answering.{by_input, if_ok, sends_again}
 use Rattle.joiner_core.proofs.node_core.JoinerCore.decide.Goals as goal
 
@@ -10,17 +10,6 @@ returns-in-Tick-clause-turn c = if_ok c.send_again.result _ _ (λ t d g n k l i 
     let stands = subst (λ (x : JoinerInput). IsReady core g n k l x) c.in-Tick.is ready in
     let tick = subst (λ (x : JoinerInput). Carries g k l x i) c.in-Tick.is carries in
     by_input g n k l i _ tick (sends_again core g n k l stands t d)) c.send_again.ensures.does
-
-pub returns-in_ok-make_room-in-Join-clause-turn : goal.returns-in_ok-make_room-in-Join-clause-turn
-returns-in_ok-make_room-in-Join-clause-turn c = if_ok c.join.result _ _ (λ t d g n k l i ready carries.
-    let core = c.args.self.now in
-    let s = subst (λ (x : JoinerInput). IsReady core g n k l x) c.in-Join.is ready in
-    let told = subst (λ (x : JoinerInput). Carries g k l x i) c.in-Join.is carries in
-    by_input g n k l i _ told.0.1 (d g n k l (record {
-      serves = record { node = s.serves.node; site = s.serves.site };
-      epoch = s.epoch;
-      live = ap (λ fs. record { number = core.number; flight = fs }) c.make_room.ensures.same ∙ s.live;
-    }) told.1)) c.join.ensures.turn
 
 pub returns-in-Packet-clause-turn : goal.returns-in-Packet-clause-turn
 returns-in-Packet-clause-turn c = if_ok c.receive.result _ _ (λ t d g n k l i ready carries.

@@ -1,18 +1,9 @@
 use Rattle.std.proofs.Common.{◌++◌, ℕ, List, Option, Err, inl, inr, ⊎_elim, refl, ap, subst, ◌∙◌, IfSome}
 use Rattle.photon_cli.proofs.Words.{PlanView, bytes_under, ReportLine, totals, TookPrefix, bulk_values, IsHeardOf, IsOfDrill, IsPast}
-use Rattle.photon_cli.proofs.Bulking.{bulk_early, bulk_run, bulk_totals, made_valid, no_read, without}
+use Rattle.photon_cli.proofs.Bulking.{bulk_early, bulk_run, bulk_totals, made_valid, without}
 use Rattle.photon_cli.proofs.Drilling.{more_stops, no_stops}
 use Rattle.photon_cli.proofs.Statuses.{run_past}
 use Rattle.photon_cli.proofs.engine.bulk.bulk_totals.Goals as goal
-
-pub returns-in-Err-clause-begins : goal.returns-in-Err-clause-begins
-returns-in-Err-clause-begins g c = inl (refl, inl c.in-Err.ensures.bad)
-
-pub returns-in_default-clause-begins : goal.returns-in_default-clause-begins
-returns-in_default-clause-begins g c = inl (refl, inr ((c.in-Ok.table, c.in-Ok.ensures.found), refl))
-
-pub returns-in-Err-bulk_plan-clause-begins : goal.returns-in-Err-bulk_plan-clause-begins
-returns-in-Err-bulk_plan-clause-begins g c = inl (refl, inr ((c.in-Ok.table, c.in-Ok.ensures.found), refl))
 
 pub returns-in-Err-drilled_lines-clause-begins : goal.returns-in-Err-drilled_lines-clause-begins
 returns-in-Err-drilled_lines-clause-begins g c =
@@ -25,9 +16,6 @@ returns-in-Err-drilled_lines-clause-begins g c =
     let f = c.in-Err-drilled_lines.fault in
     let memory = bulk_early told v few queries clicks c.valid_logs.ensures.queries c.valid_logs.ensures.clicks valid f c.without_reads.result (λ log line w e. c.in-Err-drilled_lines.ensures.refused refl log line w (ap Err e)) c.without_reads.ensures in
     ⊎_elim (λ early. inl (early.0, inr ((c.in-Ok.table, c.in-Ok.ensures.found), memory early.1))) (λ late. inr (((c.in-Ok.table, c.in-Ok.ensures.found), subst (λ (p : PlanView). IfSome c.drilled_lines.new.ran.log (IsHeardOf p c.args.wanted.now.nodes.joiners)) c.in-Ok-bulk_plan.ensures late.1), without IsPast f c.without_reads.result c.without_reads.ensures tt (run_past f late.2))) c.in-Err-drilled_lines.ensures.begins
-
-pub returns-in-Err-drilled_lines-clause-reads : goal.returns-in-Err-drilled_lines-clause-reads
-returns-in-Err-drilled_lines-clause-reads g c = no_read c.in-Err-drilled_lines.fault c.without_reads.result c.without_reads.ensures
 
 pub returns-in-Err-drilled_lines-clause-fair : goal.returns-in-Err-drilled_lines-clause-fair
 returns-in-Err-drilled_lines-clause-fair g c =

@@ -1,5 +1,5 @@
 use Rattle.std.proofs.Common.{◌≡◌, ℕ, List, Option, Err, ap, subst}
-use Rattle.photon_cli.proofs.Words.{IsSomeAnd, err_from_is_err_and, QueryRec, IsQueryLog, RefusesClick, Queries, Clicks, Refuses}
+use Rattle.photon_cli.proofs.Words.{IsSomeAnd, err_from_is_err_and, QueryRec, IsQueryLog, RefusesClick, Clicks, Refuses}
 use Rattle.run_fault.specs.declared.fault.RunFault.TheVariants as fault
 use Rattle.photon_cli.proofs.CheckedLogs.{clicks_read, queries_read}
 use Rattle.photon_cli.proofs.Refusals.{of_its_log, within}
@@ -13,13 +13,6 @@ returns-clause-valid g c logs =
 
 pub returns-clause-end : goal.returns-clause-end
 returns-clause-end g c logs = (clicks_read _ _ c.in_ok-checked.checked (c.in_ok-check_in.ensures.same logs c.args.clicks.now) (c.in_ok-checked.ensures.found logs)).2
-
-pub returns-in_err-check_in-clause-refused : goal.returns-in_err-check_in-clause-refused
-returns-in_err-check_in-clause-refused g c tells log line w e =
-    let p = err_from_is_err_and c.from_residual.result c.from_residual.ensures.1 in
-    let f = c.in_err-check_in.field-0.0 in
-    let own : f ≡ fault.Refused log line w = cc in
-    of_its_log (Refuses (g.F.Source.bytes c.args.files.now) c.args.queries.now c.args.clicks.now) Queries log f line w c.in_err-check_in.ensures.fault (λ is. c.in_err-check_in.ensures.refused tells line w (ap Err is)) own
 
 pub returns-in_err-checked-clause-refused : goal.returns-in_err-checked-clause-refused
 returns-in_err-checked-clause-refused g c tells log line w e =

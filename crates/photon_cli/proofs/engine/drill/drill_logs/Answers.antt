@@ -1,15 +1,9 @@
-use Rattle.std.proofs.Common.{◌≡◌, ⊎_elim, inl, inr, ℕ, List, Option, Err, refl, ap, subst}
+use Rattle.std.proofs.Common.{◌≡◌, ⊎_elim, inl, inr, ℕ, List, Option, Err, ap, subst}
 use Rattle.photon_cli.proofs.Words.{values_in, Drills, AreValid, Refuses}
 use Rattle.run_fault.specs.declared.fault.RunFault.TheVariants as fault
 use Rattle.photon_cli.proofs.Drilling.{more_stops}
-use Rattle.photon_cli.proofs.Statuses.{plan_fair, run_past}
+use Rattle.photon_cli.proofs.Statuses.{run_past}
 use Rattle.photon_cli.proofs.engine.drill.drill_logs.Goals as goal
-
-pub returns-in-Err-clause-begins : goal.returns-in-Err-clause-begins
-returns-in-Err-clause-begins g c = inl (refl, inl c.in-Err.ensures.bad)
-
-pub returns-in-Err-plan_in_file-clause-begins : goal.returns-in-Err-plan_in_file-clause-begins
-returns-in-Err-plan_in_file-clause-begins g c = inl (refl, inr ((c.in-Ok.table, c.in-Ok.ensures.found), inl c.in-Err-plan_in_file.ensures.cause))
 
 pub returns-in-Err-drilled_lines-clause-begins : goal.returns-in-Err-drilled_lines-clause-begins
 returns-in-Err-drilled_lines-clause-begins g c =
@@ -37,9 +31,6 @@ pub returns-in-Err-drilled_lines-clause-refused : goal.returns-in-Err-drilled_li
 returns-in-Err-drilled_lines-clause-refused g c logs log line w e =
     let v = values_in c.args.wanted.now in
     subst (λ (t : List ℕ → Option (List ℕ)). Refuses t v.queries v.clicks log (record { line = line; why = w })) (λ k n. c.plan_in_file.ensures.same logs n k) (let own : c.in-Err-drilled_lines.fault ≡ fault.Refused log line w = cc in c.in-Err-drilled_lines.ensures.refused logs log line w (ap Err own))
-
-pub returns-in-Err-plan_in_file-clause-fair : goal.returns-in-Err-plan_in_file-clause-fair
-returns-in-Err-plan_in_file-clause-fair g c logs = plan_fair _ c.in-Err-plan_in_file.fault c.in-Err-plan_in_file.ensures.cause
 
 pub returns-in-Err-drilled_lines-clause-fair : goal.returns-in-Err-drilled_lines-clause-fair
 returns-in-Err-drilled_lines-clause-fair g c logs = more_stops _ _ (λ some. (c.in-Ok-plan_in_file.plan, c.in-Ok-plan_in_file.ensures.plan logs, some)) c.in-Err-drilled_lines.fault (c.in-Err-drilled_lines.ensures.fair logs)

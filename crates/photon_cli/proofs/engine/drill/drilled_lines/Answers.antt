@@ -1,8 +1,6 @@
-use Rattle.std.specs.Prelude.{IsTrue, ⊤}
-use Rattle.std.proofs.Common.{List, [], ℕ, Option, inl, inr, refl, sym, ap, subst}
-use Rattle.photon_cli.proofs.Words.{AreValid, Clicks, Config, IfSome, IsAsked, IsHeardOf, IsOfDrill, IsSettingOf, Setting, SparesNodes, StopsAtMost, all_earlier, config_of, counted_more, names_of, same_left, stops_earlier, values_in}
+use Rattle.std.proofs.Common.{IsTrue, List, [], ℕ, Option, inr, refl, sym, ap, subst}
+use Rattle.photon_cli.proofs.Words.{⊤, AreValid, Config, IfSome, IsAsked, IsHeardOf, IsSettingOf, Setting, SparesNodes, StopsAtMost, all_earlier, config_of, counted_more, names_of, same_left, stops_earlier, values_in}
 use Rattle.photon_cli.proofs.Drilling.{drilled, never_soon, of_drill}
-use Rattle.photon_cli.proofs.Statuses.{of_log}
 use Rattle.photon_cli.proofs.Runs.{is_asked, placed_ids, ran_afresh, run_setting, setting_of}
 use Rattle.site_run.specs.Heard as site
 use Rattle.mem_outside.specs.contracts.mem_store.MemStoreStore.TheImpl.{ghosts}
@@ -21,12 +19,6 @@ heard g c = subst (λ (k : Config). IfSome c.run_sites.new.ran.log (site.IsHeard
 
 valid : (g : Over) (c : After-run_sites g) → IsTrue g.F.Log.LogFile.tells → AreValid (g.F.Source.bytes c.args.files.now) (values_in c.args.wanted.now).queries (values_in c.args.wanted.now).clicks
 valid g c logs = let x = c.in-Ok.ensures.valid logs in (x.0, x.1, x.2)
-
-pub returns-in-Err-clause-begins : goal.returns-in-Err-clause-begins
-returns-in-Err-clause-begins g c = inl (refl, c.in-Err.ensures.fault)
-
-pub returns-in_default-clause-begins : goal.returns-in_default-clause-begins
-returns-in_default-clause-begins g c = inl (refl, (Clicks, inr (inr refl)))
 
 pub returns-in-Err-run_sites-clause-begins : goal.returns-in-Err-run_sites-clause-begins
 returns-in-Err-run_sites-clause-begins g c =
@@ -56,9 +48,6 @@ returns-in-Ok-classify-clause-done g c logs =
       drilled c.run_sites.new.ran.log s plan v.nodes.joiners c.in-Ok-classify.lines.items (ap (λ k. k.joiners) asked.setting.numbers) ran (heard g r)
           (stops_earlier c.run_sites.new.ran.log (StopsAtMost v.nodes.joiners plan.stops) _ s (λ disk k. same_left k _ _ 0 _ (store.calls disk) (store.made disk)) (c.run_sites.ensures.stops refl logs s is).stops),
     )
-
-pub returns-in-Err-clause-fair : goal.returns-in-Err-clause-fair
-returns-in-Err-clause-fair g c logs = let x = c.in-Err.ensures.fault in of_log (IsOfDrill _) x.0 (λ line w. tt) tt tt c.in-Err.fault x.1
 
 pub returns-in-Err-run_sites-clause-fair : goal.returns-in-Err-run_sites-clause-fair
 returns-in-Err-run_sites-clause-fair g c logs =

@@ -1,9 +1,8 @@
-use Rattle.std.specs.Prelude.{IsTrue, ⊤}
-use Rattle.std.proofs.Common.{◌++◌, List, Some, inl, inr, Err, refl, sym, ap, subst, ◌∙◌}
-use Rattle.photon_cli.proofs.Words.{BeginsJoin, Config, HaveIds, IfSome, IsAsked, IsHistory, IsSettingOf, PlanView, Rose, ReportLine, Setting, text_of, TookPrefix, IsLate, TellsPlaces, asked_of, rose_before, counted_more, welcome_where, values_in, IsHeardOf, no_plan}
+use Rattle.std.proofs.Common.{IsTrue, ◌++◌, List, Some, inr, Err, sym, ap, subst, ◌∙◌}
+use Rattle.photon_cli.proofs.Words.{⊤, BeginsJoin, Config, HaveIds, IfSome, IsAsked, IsHistory, IsSettingOf, PlanView, Rose, ReportLine, Setting, text_of, TookPrefix, IsLate, TellsPlaces, asked_of, rose_before, counted_more, welcome_where, values_in, IsHeardOf, no_plan}
 use Rattle.photon_cli.proofs.Causing.{log_caused}
 use Rattle.photon_cli.proofs.Overs.{before_all, before_table, on_err, on_fault, on_ok, read_later}
-use Rattle.photon_cli.proofs.Runs.{began, history, none_named, if_history, is_asked, joined, joined_afresh, placed_ids, run_setting, setting_of}
+use Rattle.photon_cli.proofs.Runs.{began, history, if_history, is_asked, joined, joined_afresh, placed_ids, run_setting, setting_of}
 use Rattle.photon_cli.proofs.Statuses.{log_fair, run_past}
 use Rattle.site_run.specs.Heard as site
 use Rattle.photon_cli.proofs.engine.join.join_logs.Given.{Over}
@@ -35,18 +34,6 @@ left_of g c disks logs s asked = if_history c.run_sites.new.ran.log s _ _ no_pla
 -- the logs' faults were counted from before they were checked
 rose : (g : Over) (c : After-run_sites g) → Rose (g.F.Source.faults c.checked_logs.new.files) (g.F.Source.faults c.run_sites.new.files) → Rose (g.F.Source.faults c.args.files.now) (g.F.Source.faults c.run_sites.new.files)
 rose g c = rose_before (g.F.Source.faults c.args.files.now) (g.F.Source.faults c.checked_logs.new.files) (g.F.Source.faults c.run_sites.new.files) c.checked_logs.ensures.count.later
-
-pub returns-in-Err-clause-begins : goal.returns-in-Err-clause-begins
-returns-in-Err-clause-begins g c = inl (refl, refl, inl c.in-Err.ensures.bad)
-
-pub returns-in-Err-clause-history : goal.returns-in-Err-clause-history
-returns-in-Err-clause-history g c disks logs s asked = inl refl
-
-pub returns-in-Err-checked_logs-clause-begins : goal.returns-in-Err-checked_logs-clause-begins
-returns-in-Err-checked_logs-clause-begins g c = inl (refl, refl, inr ((c.in-Ok.table, c.in-Ok.ensures.found), c.in-Err-checked_logs.ensures.fault))
-
-pub returns-in-Err-checked_logs-clause-history : goal.returns-in-Err-checked_logs-clause-history
-returns-in-Err-checked_logs-clause-history g c disks logs s asked = inl refl
 
 pub returns-in-Err-run_sites-clause-begins : goal.returns-in-Err-run_sites-clause-begins
 returns-in-Err-run_sites-clause-begins g c =
@@ -137,18 +124,6 @@ returns-clause-ends g c disks logs s asked =
     let ran = (c.in-Ok-run_sites.ensures.over disks logs s (of_run g r logs s asked)).ends in
     on_err s _ _ _ _ _ _ (read_later s _ _ _ _ _ (rose g r) _ _ ran) _ (tt, ran.passed) tt
 
-pub returns-in-Err-clause-named : goal.returns-in-Err-clause-named
-returns-in-Err-clause-named g c disks logs s asked = inl refl
-
-pub returns-in-Err-checked_logs-clause-named : goal.returns-in-Err-checked_logs-clause-named
-returns-in-Err-checked_logs-clause-named g c disks logs s asked = inl refl
-
 pub returns-in-Err-run_sites-clause-named : goal.returns-in-Err-run_sites-clause-named
 returns-in-Err-run_sites-clause-named g c disks logs s asked =
     inr (c.in-Err-run_sites.ensures.over disks logs s (of_run g (goal.at.returns-in-Err-run_sites-clause-named g c).After-run_sites logs s asked)).named
-
-pub returns-in_default-clause-named : goal.returns-in_default-clause-named
-returns-in_default-clause-named g c disks logs s asked = inr (none_named c.run_sites.new.ran.log)
-
-pub returns-clause-named : goal.returns-clause-named
-returns-clause-named g c disks logs s asked = inr (none_named c.run_sites.new.ran.log)

@@ -1,12 +1,9 @@
 use Rattle.std.proofs.Common.{◌≡◌, ◌≢◌, inl, inr, ℕ, List, Err, None, IsTrue, refl, sym, ap, subst, ◌∙◌, arith}
+use Rattle.photon_cli.proofs.Words.{⊤, TookPrefix, HasRow, IsCauseFor, IsRowOf, REPLICAS, DiskName, Rose, ShardRow, failed_rose, rose_before, status_of}
 use Rattle.outside.specs.declared.store.DiskName.TheVariants as name
-use Rattle.std.specs.Prelude.{⊤}
 use Rattle.run_fault.specs.declared.fault.RunFault.TheVariants as fault
 use Rattle.run_fault.specs.declared.fault.StorePlace.TheVariants as place
-use Rattle.report_text.specs.Stream.{TookPrefix}
 use Rattle.site_store.specs.Adding.{IsRowCause, NoneTold}
-use Rattle.photon_cli.specs.Reshard.{HasRow, IsCauseFor, IsRowOf}
-use Rattle.photon_cli.proofs.Words.{REPLICAS, DiskName, Rose, ShardRow, failed_rose, rose_before, status_of}
 use Rattle.photon_cli.proofs.Resharding.{adds, added_before, answer_for, cause_before, ends, ends_added, ends_place, fair_row, left_before, named_row, not_added, not_written, one_row, place_status, untaken}
 use Rattle.photon_cli.proofs.Answered.{answered, ended}
 use Rattle.photon_cli.proofs.engine.reshard.reshard_command.Goals as goal

@@ -1,6 +1,6 @@
 use Rattle.std.proofs.Common.{◌≡◌, [], ◌∷◌, Result, Ok, Err, refl, sym, ◌∙◌, subst, arith, lit<, IfErr}
-use Rattle.std.specs.Fmt.{digits}
 use Rattle.photon_cli.proofs.Words.{IsTable}
+use Rattle.std.specs.Fmt.{digits}
 use Rattle.time_shards.specs.Text.{row_text}
 use Rattle.photon_cli.proofs.engine.verify.one_shard.Goals as goal
 

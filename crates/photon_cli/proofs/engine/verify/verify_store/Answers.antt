@@ -1,10 +1,9 @@
-use Rattle.std.proofs.Common.{◌++◌, ℕ, List, Option, None, Err, inl, inr, refl, ap, sym, subst, ◌∙◌}
-use Rattle.std.specs.Prelude.{◌≡◌, IsTrue}
-use Rattle.photon_cli.proofs.Words.{REPLICAS, list_any, IsSomeAnd, ReportLine, Setting, end_from, is_missing, text_of, TookPrefix, Rose, IsLogOf, IsOverLog, Clicks, rose_before, IsReadFrom, IsTold, TellsPlaces}
-use Rattle.photon_cli.proofs.Causing.{later_caused, log_caused}
+use Rattle.std.proofs.Common.{◌++◌, ℕ, List, Option, None, inr, refl, ap, sym, subst, ◌∙◌, ◌≡◌, IsTrue}
+use Rattle.photon_cli.proofs.Words.{REPLICAS, list_any, IsSomeAnd, ReportLine, Setting, end_from, is_missing, text_of, TookPrefix, Rose, IsLogOf, IsOverLog, rose_before, IsReadFrom, IsTold, TellsPlaces}
+use Rattle.photon_cli.proofs.Causing.{later_caused}
 use Rattle.photon_cli.proofs.CheckedLogs.{clicks_read}
 use Rattle.photon_cli.proofs.Runs.{ends_there}
-use Rattle.photon_cli.proofs.Statuses.{log_fair, run_past}
+use Rattle.photon_cli.proofs.Statuses.{run_past}
 use Rattle.photon_cli.proofs.Verifying.{told_of}
 use Rattle.photon_cli.proofs.engine.verify.verify_store.Given.{Over}
 use Rattle.photon_cli.proofs.engine.verify.verify_store.Goals as goal
@@ -44,9 +43,6 @@ returns-clause-prefix g c logs sinks disks e = (
   subst (λ (t : List ℕ). TookPrefix (g.K.Sink.held c.args.out.now) t (g.K.Sink.held c.write_report.new.sink)) (ap text_of c.deref.ensures.value) (c.in-Err-write_report.ensures.prefix sinks),
 )
 
-pub returns-in-Err-clause-begins : goal.returns-in-Err-clause-begins
-returns-in-Err-clause-begins g c = inl (refl, c.in-Err.ensures.fault)
-
 pub returns-in-Err-kept_store-clause-begins : goal.returns-in-Err-kept_store-clause-begins
 returns-in-Err-kept_store-clause-begins g c = inr ((λ logs. (clicks_read _ _ c.in-Ok.checked refl (c.in-Ok.ensures.found logs)).0), (let e = c.in-Err-kept_store.ensures in (run_past c.in-Err-kept_store.fault e.cause, e.own)))
 
@@ -58,15 +54,6 @@ returns-in-Ok-write_report-clause-begins g c = inr ((λ logs. (clicks_read _ _ c
 
 pub returns-clause-begins : goal.returns-clause-begins
 returns-clause-begins g c = inr ((λ logs. (clicks_read _ _ c.in-Ok.checked refl (c.in-Ok.ensures.found logs)).0), (tt, tt))
-
-pub returns-in-Err-clause-caused : goal.returns-in-Err-clause-caused
-returns-in-Err-clause-caused g c disks logs s over =
-    let faulted = Rose (g.S.Store.faults c.args.store.now) (g.S.Store.faults c.args.store.now) in
-    let read = Rose (g.F.Source.faults c.args.files.now) (g.F.Source.faults c.check_in.new.files) in
-    log_caused (g.S.Store.image c.args.store.now) REPLICAS None (TellsPlaces s) faulted ⊥ read c.in-Err.refused Clicks c.in-Err.ensures.fault (λ is. c.in-Err.ensures.count.rose (ap Err is))
-
-pub returns-in-Err-clause-welcome : goal.returns-in-Err-clause-welcome
-returns-in-Err-clause-welcome g c disks logs s over replicas leaves sound = log_fair c.in-Err.refused Clicks c.in-Err.ensures.fault
 
 pub returns-in-Err-kept_store-clause-caused : goal.returns-in-Err-kept_store-clause-caused
 returns-in-Err-kept_store-clause-caused g c disks logs s over =

@@ -1,6 +1,6 @@
-use Rattle.std.proofs.Common.{ℕ, ◌<◌, ◌≤◌, ◌^◌, refl, sym, subst, arith, rules}
+use Rattle.std.proofs.Common.{ℕ, ◌<◌, ◌≤◌, ◌^◌, refl, sym, subst, rules}
 use Rattle.registry_server.proofs.Words.{Setting, worked}
-use Rattle.registry_server.proofs.Spelling.{empty_ok}
+use Rattle.registry_server.proofs.Spelling.{nothing_ok}
 use Rattle.registry_server.proofs.registrar.Registrar.new.Goals as goal
 
 pub invariant_of-result : goal.invariant_of-result
@@ -21,8 +21,8 @@ invariant_of-result c =
             batch = c.args.station.few;
             shards = subst (λ (n : ℕ). n ≤ 16) c.shards-count.ensures.count c.shards-count.ensures.few;
           };
-      spelled = record { epoch = omega arith; round = omega arith; each = λ s. empty_ok };
+      spelled = nothing_ok _ c.args.held.limit;
     }
 
-pub returns-clause-serves : goal.returns-clause-serves
-returns-clause-serves c = λ g new. (c.in_ok-core.ensures.stands g new).config
+pub returns : goal.returns
+returns c = λ g new. record { site = c.in_ok-core.ensures.site; stands = c.in_ok-core.ensures.stands g new }

@@ -1,8 +1,6 @@
 use Rattle.std.proofs.Common.{◌∷◌, [], length, ap, length-append, arith, rules, ◌≡◌}
 use Rattle.site_run.proofs.Words.{IsPermutation-cons, IsPermutation-trans}
-use Rattle.site_run.proofs.Making.{at_first, ended, from_at, none_made, one_made, stopped}
-use Rattle.site_run.proofs.Placing.{are_down_over}
-use Rattle.site_run.proofs.Taken.{opened_count}
+use Rattle.site_run.proofs.Making.{are_down_over, at_first, ended, from_at, none_made, one_made, opened_count, stopped}
 use Rattle.site_run.proofs.built.building.build.Goals as goal
 
 pub loop-number-init : goal.loop-number-init

@@ -1,5 +1,5 @@
 use Rattle.std.proofs.Common.{◌≡◌, ℕ, ◌+◌, ◌-◌, ◌*◌, List, ◌++◌, length, length-append, replicate, take, sym, ap, ◌∙◌, arith}
-use Rattle.std.proofs.lemmas.List.{length-replicate, take_all}
+use Rattle.site_run.proofs.Words.{length-replicate, take_all}
 use Rattle.lossy_link.specs.declared.plan.Kind.TheVariants as kind
 use Rattle.site_run.proofs.built.parts.kinds.Goals as goal
 

@@ -11,25 +11,20 @@ use Rattle.site_store.proofs.disks.all.open_disks.Goals as goal
 
 pub returns-in-Ok-open_others-clause-kept : goal.returns-in-Ok-open_others-clause-kept
 returns-in-Ok-open_others-clause-kept g c =
-    let before = g.S.Store.image c.args.store.now in
-    let mid = g.S.Store.image c.open_one.new.store in
     let all = c.in-Ok-open_others.disks.items in
     let away = lacks_by_names name.Topology all _ c.in-Ok-open_others.ensures.named (not_topology c.joiners_of.result c.args.replicas) in
     record {
-      topology = λ sure. subst (λ k. IsKeptIn (before name.Topology) (KeepsAs k)) c.into_topology-topology.ensures.kept (c.in-Ok.ensures.kept sure);
+      topology = λ sure. rw c.into_topology-topology.ensures.kept at (c.in-Ok.ensures.kept sure);
       named = names_kept all ∙ c.in-Ok-open_others.ensures.named ∙ ap (λ n. other_names n c.args.replicas) c.joiners_of.ensures;
       kinds = each_kept (λ d. IsOfKind d.name d.kept) all c.in-Ok-open_others.ensures.kinds;
-      kept = λ sure. each_kept (IsKept before) all (kept_before before mid name.Topology (c.in-Ok.ensures.others sure) all away (c.in-Ok-open_others.ensures.kept sure));
+      kept = λ sure. each_kept (IsKept (g.S.Store.image c.args.store.now)) all (kept_before _ _ name.Topology (c.in-Ok.ensures.others sure) all away (c.in-Ok-open_others.ensures.kept sure));
     }
 
 pub returns-in-Ok-open_others-clause-lent : goal.returns-in-Ok-open_others-clause-lent
 returns-in-Ok-open_others-clause-lent g c tells =
-    let image = g.S.Store.image in
-    let left = g.S.Disk.Disk.image in
-    let before = image c.args.store.now in
     let away = lacks_by_names name.Topology c.in-Ok-open_others.disks.items _ c.in-Ok-open_others.ensures.named (not_topology c.joiners_of.result c.args.replicas) in
-    let stays = subst (λ d. StaysAs (before name.Topology) (left d)) c.into_topology-topology.ensures.disk (c.in-Ok.ensures.stays tells) in
-    first_lent left before (image c.open_one.new.store) (image c.open_others.new.store) _ _ stays (c.in-Ok.ensures.others tells) (c.in-Ok-open_others.ensures.lent tells) away
+    let stays = subst (λ d. StaysAs (g.S.Store.image c.args.store.now name.Topology) (g.S.Disk.Disk.image d)) c.into_topology-topology.ensures.disk (c.in-Ok.ensures.stays tells) in
+    first_lent _ _ _ _ _ _ stays (c.in-Ok.ensures.others tells) (c.in-Ok-open_others.ensures.lent tells) away
 
 pub returns-in-Err-open_others-clause-first : goal.returns-in-Err-open_others-clause-first
 returns-in-Err-open_others-clause-first g c =
@@ -49,13 +44,11 @@ returns-in-Err-open_others-clause-first g c =
 
 pub returns-in-Ok-open_others-clause-plan : goal.returns-in-Ok-open_others-clause-plan
 returns-in-Ok-open_others-clause-plan g c planned =
-    let d = g.S.Disk.Disk in
-    let s = g.S.Store in
     let topology = topology_lent c.into_topology-topology.result.journal.disk in
     let all = lent_all c.in-Ok-open_others.disks.items in
     let away = lacks_by_names name.Topology c.in-Ok-open_others.disks.items _ c.in-Ok-open_others.ensures.named (not_topology c.joiners_of.result c.args.replicas) in
-    let first = taken_as d s c.args.store.now c.open_one.new.store _ topology c.in-Ok.ensures.name c.into_topology-topology.ensures.disk (c.in-Ok.ensures.plan planned) in
-    taken_on d s c.args.store.now c.open_one.new.store c.open_others.new.store (topology ∷ []) all first
+    let first = taken_as _ _ _ _ _ topology c.in-Ok.ensures.name c.into_topology-topology.ensures.disk (c.in-Ok.ensures.plan planned) in
+    taken_on _ _ _ _ _ (topology ∷ []) all first
     (each_more (λ l. l.name ≢ name.Topology) (λ l. Lacks (topology ∷ []) l.name) all (λ l other. ((λ e. other (sym e)), tt)) away) (c.in-Ok-open_others.ensures.plan planned)
 
 pub returns-in-Err-open_others-clause-early : goal.returns-in-Err-open_others-clause-early

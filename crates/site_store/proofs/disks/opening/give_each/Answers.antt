@@ -1,14 +1,12 @@
 use Rattle.std.proofs.Common.{◌≡◌, ◌++◌, ◌∷◌, [], ◌∙◌, sym, subst, arith}
-use Rattle.site_store.proofs.Words.{Each, Within, AllKept, added, lent_by}
-use Rattle.site_store.proofs.Lending.{each_push, given_last, length_more}
+use Rattle.site_store.proofs.Words.{Each, each_append, AllKept, added, lent_by}
+use Rattle.site_store.proofs.Lending.{given_last, length_more}
 use Rattle.site_store.proofs.Planned.{last_calm}
 use Rattle.site_store.proofs.disks.opening.give_each.Goals as goal
 
 pub loop-one-preserved : goal.loop-one-preserved
 loop-one-preserved g c =
     let left = g.S.Disk.Disk.image in
-    let mid = g.S.Store.image c.loop-one.store in
-    let after = g.S.Store.image c.give.new.self in
     let one = c.in-Some.one in
     let items = c.loop-one.disks.items in
     let rest = c.pop.new.self.items in
@@ -17,10 +15,10 @@ loop-one-preserved g c =
     let size = length_more rest items one cut in
     record {
       left = λ tells name bytes now. (
-          let images = subst (λ (d : g.row.S-Disk.Denot). Within (left d) (after one.name)) c.into_disk.ensures.disk (subst (λ n. Within (left c.into_disk.result) (after n)) c.name-name.ensures (c.give.ensures.images tells)) in
-          inv.left tells name bytes (given_last left mid after lent_by items rest one cut images (λ other not. c.give.ensures.others tells other (λ e. not (e ∙ c.name-name.ensures))) name bytes now)
+          let images = rw (c.name-name.ensures, c.into_disk.ensures.disk) at (c.give.ensures.images tells) in
+          inv.left tells name bytes (given_last left _ _ lent_by items rest one cut images (λ other not. c.give.ensures.others tells other (λ e. not (e ∙ c.name-name.ensures))) name bytes now)
           );
-      keep = λ tells left_all. inv.keep tells (subst (Each (λ o. AllKept left o)) (sym cut) (each_push (λ o. AllKept left o) rest one left_all (c.into_disk.ensures.keeps tells)));
+      keep = λ tells left_all. inv.keep tells (subst (Each (λ o. AllKept left o)) (sym cut) (each_append (λ o. AllKept left o) rest (one ∷ []) left_all (c.into_disk.ensures.keeps tells, tt)));
       room = omega (arith, size, inv.room, c.give.ensures.places);
       places = omega (arith, size, inv.places, c.give.ensures.places);
       calm = λ none. (

@@ -50,20 +50,15 @@ loop-i-preserved g c =
       kept = λ tells. each_more (λ o. IsKept before (kept_by o)) items now one (inv.kept tells) (keeps_first left before mid items one name (inv.lent tells) lacks e.name (e.kept tells)) more;
       places = omega (arith, inv.places, e.place, length_more items now one more);
       plan = λ planned. (
-          let d = g.S.Disk.Disk in
-          let s = g.S.Store in
           let whole : lent_all now ≡ lent_all items ++ lent_by one ∷ [] = ap lent_all more ∙ map-append lent_by items (one ∷ []) in
-          subst (AreAsPlanned d s c.args.store.now c.open_one.new.store) (sym whole)
-          (taken_on d s c.args.store.now c.loop-i.store c.open_one.new.store (lent_all items) (lent_by one ∷ []) (inv.plan planned)
-          (subst (Lacks (lent_all items)) (sym e.name) lacks, tt) (e.plan planned))
+          subst (AreAsPlanned g.S.Disk.Disk g.S.Store c.args.store.now c.open_one.new.store) (sym whole)
+          (taken_on _ _ _ _ _ (lent_all items) (lent_by one ∷ []) (inv.plan planned) (subst (Lacks (lent_all items)) (sym e.name) lacks, tt) (e.plan planned))
           );
       count = omega (arith, inv.count, c.open_one.ensures.count);
     }
 
 pub returns-in-Err-clause-back : goal.returns-in-Err-clause-back
-returns-in-Err-clause-back g c tells =
-    let image = g.S.Store.image in
-    cut_back g.S.Disk.Disk.image (image c.args.store.now) (image c.loop-i.store) (image c.open_one.new.store) (image c.give_each.new.store) _ (c.loop-i.invariant.lent tells) (c.in-Err.ensures.back tells) (c.give_each.ensures.left tells)
+returns-in-Err-clause-back g c tells = cut_back _ _ _ (g.S.Store.image c.open_one.new.store) _ _ (c.loop-i.invariant.lent tells) (c.in-Err.ensures.back tells) (c.give_each.ensures.left tells)
 
 pub returns-in-Err-clause-first : goal.returns-in-Err-clause-first
 returns-in-Err-clause-first g c =

@@ -6,15 +6,11 @@ use Rattle.site_store.proofs.lent.reading.read_back.Goals as goal
 
 pub returns-in-Err-clause-same : goal.returns-in-Err-clause-same
 returns-in-Err-clause-same g c =
-    let d = g.D.Disk in
-    next_all (IsOnlyRead d.tells d.seen d.image d.since d.faults d.planned d.is_down) (untouched d.tells d.seen d.image d.since d.faults d.planned d.is_down g.met.D.Disk.starts)
-    c.loop-i.i c.args.disks.now c.loop-i.disks c.index-disks-i.result c.read_one.new.lent c.loop-i.invariant.walked c.loop-i-test.true c.read_one.ensures.same
+    next_all _ (untouched _ _ _ _ _ _ _ g.met.D.Disk.starts) _ _ _ c.index-disks-i.result c.read_one.new.lent c.loop-i.invariant.walked c.loop-i-test.true c.read_one.ensures.same
 
 pub returns-in_default-clause-same : goal.returns-in_default-clause-same
 returns-in_default-clause-same g c =
-    let d = g.D.Disk in
-    next_all (IsOnlyRead d.tells d.seen d.image d.since d.faults d.planned d.is_down) (untouched d.tells d.seen d.image d.since d.faults d.planned d.is_down g.met.D.Disk.starts)
-    c.loop-i.i c.args.disks.now c.loop-i.disks c.index-disks-i.result c.read_one.new.lent c.loop-i.invariant.walked c.loop-i-test.true c.read_one.ensures.same
+    next_all _ (untouched _ _ _ _ _ _ _ g.met.D.Disk.starts) _ _ _ c.index-disks-i.result c.read_one.new.lent c.loop-i.invariant.walked c.loop-i-test.true c.read_one.ensures.same
 
 pub loop-i-preserved : goal.loop-i-preserved
 loop-i-preserved g c =

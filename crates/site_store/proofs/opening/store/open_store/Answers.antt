@@ -1,5 +1,5 @@
-use Rattle.std.proofs.Common.{◌∷◌, Err, Some, refl, ap, ◌∙◌, sym, subst}
-use Rattle.site_store.proofs.Words.{AreKept, IsCause, Rose, values_of, lent_all, topology_lent}
+use Rattle.std.proofs.Common.{◌∷◌, Err, refl, ap, ◌∙◌, sym}
+use Rattle.site_store.proofs.Words.{lent_all, topology_lent}
 use Rattle.site_store.proofs.Causes.{unwritten_memory}
 use Rattle.site_store.proofs.Leaving.{back_stays, back_grown, back_written, out_for, topology_written, joiners_same}
 use Rattle.site_store.proofs.Recorded.{left_with, whole_with}
@@ -13,30 +13,18 @@ returns-in-Err-clause-sound g c tells s asked sound = c.stays.ensures s c.args.s
 
 pub returns-in-Err-clause-welcome : goal.returns-in-Err-clause-welcome
 returns-in-Err-clause-welcome g c sure log_sure = λ s asked same log_is end_is sound.
-    let log = g.L.LogFile in
-    let tells = g.S.Disk.Disk.tells in
-    let before = g.S.Store.image c.args.store.now in
-    let faulted = Rose (g.S.Store.faults c.args.store.now) (g.S.Store.faults c.open_for.new.store) in
-    let rose = Rose (log.faults c.args.clicks.now) (log.faults c.open_for.new.clicks) in
-    welcome tells sure log.tells log_sure before (log.bytes c.args.clicks.now) c.args.end faulted rose c.read.ensures.topology c.fits.ensures.only s log_is end_is sound c.args.asked asked c.in-Err.fault
-    (subst (λ n. IsCause tells before n faulted log.tells (log.bytes c.args.clicks.now) c.args.end rose (Some c.args.asked) c.in-Err.fault) (sym same) c.in-Err.ensures.cause)
+    let cause = rw (sym same) at c.in-Err.ensures.cause in
+    welcome _ sure _ log_sure _ _ _ _ _ c.read.ensures.topology c.fits.ensures.only s log_is end_is sound c.args.asked asked c.in-Err.fault cause
 
 pub returns-in-Ok-keep_topology-clause-lent : goal.returns-in-Ok-keep_topology-clause-lent
 returns-in-Ok-keep_topology-clause-lent g c tells =
-    let image = g.S.Store.image in
     let k = c.in-Ok-keep_topology.ensures in
-    out_for g.S.Disk.Disk.image (image c.args.store.now) (image c.open_for.new.store) (topology_lent c.in-Ok.open.topology.journal.disk) (topology_lent c.keep_topology.new.topology.journal.disk) _
-    (c.in-Ok.ensures.lent tells) refl c.args.asked (k.durable tells) (k.grows tells)
+    out_for _ _ _ _ (topology_lent c.keep_topology.new.topology.journal.disk) _ (c.in-Ok.ensures.lent tells) refl c.args.asked (k.durable tells) (k.grows tells)
 
 pub returns-in-Ok-keep_topology-clause-were_left : goal.returns-in-Ok-keep_topology-clause-were_left
 returns-in-Ok-keep_topology-clause-were_left g c sure s records asked same of =
-    let o = c.in-Ok.ensures in
-    let t = c.in-Ok.open.topology.value.kept in
-    let k = values_of t c.in-Ok.open.disks.items in
-    let tells = g.S.Disk.Disk.tells in
-    let before = g.S.Store.image c.args.store.now in
-    let kept = subst (λ n. AreKept tells before n c.args.asked.joiners k) (sym same) o.kept in
-    left_with tells sure before c.args.asked.joiners s k kept (joiners_same t c.args.asked o.passed.topology ∙ sym asked.joiners) records of c.read.ensures.topology c.read.ensures.notes
+    let kept = rw (sym same) at c.in-Ok.ensures.kept in
+    left_with _ sure _ _ s _ kept (joiners_same _ c.args.asked c.in-Ok.ensures.passed.topology ∙ sym asked.joiners) records of c.read.ensures.topology c.read.ensures.notes
 
 pub returns-in-Ok-keep_topology-clause-whole : goal.returns-in-Ok-keep_topology-clause-whole
 returns-in-Ok-keep_topology-clause-whole g c sure s records asked same sound of =
@@ -44,36 +32,26 @@ returns-in-Ok-keep_topology-clause-whole g c sure s records asked same sound of 
 
 pub returns-in-Err-keep_topology-clause-left : goal.returns-in-Err-keep_topology-clause-left
 returns-in-Err-keep_topology-clause-left g c tells =
-    let image = g.S.Store.image in
-    back_written g.S.Disk.Disk.image (image c.args.store.now) (image c.open_for.new.store) (topology_lent c.in-Ok.open.topology.journal.disk) (topology_lent c.keep_topology.new.topology.journal.disk) _
-    (c.in-Ok.ensures.lent tells) refl (image c.give_back.new.store) (c.give_back.ensures.left tells) c.args.asked refl (c.in-Err-keep_topology.ensures.old_or_new tells)
+    back_written _ _ _ _ (topology_lent c.keep_topology.new.topology.journal.disk) _ (c.in-Ok.ensures.lent tells) refl _ (c.give_back.ensures.left tells) c.args.asked refl (c.in-Err-keep_topology.ensures.old_or_new tells)
 
 pub returns-in-Err-keep_topology-clause-back : goal.returns-in-Err-keep_topology-clause-back
 returns-in-Err-keep_topology-clause-back g c tells other =
-    let image = g.S.Store.image in
     let e = c.in-Err-keep_topology.ensures in
     unwritten_memory _ c.in-Err-keep_topology.fault _ _ e.unwritten other
-    (λ is. back_stays g.S.Disk.Disk.image (image c.args.store.now) (image c.open_for.new.store) (topology_lent c.in-Ok.open.topology.journal.disk) (topology_lent c.keep_topology.new.topology.journal.disk) _
-    (c.in-Ok.ensures.lent tells) refl (image c.give_back.new.store) (c.give_back.ensures.left tells) (e.stays tells (ap Err is)))
+    (λ is. back_stays _ _ _ _ (topology_lent c.keep_topology.new.topology.journal.disk) _ (c.in-Ok.ensures.lent tells) refl _ (c.give_back.ensures.left tells) (e.stays tells (ap Err is)))
 
 pub returns-in-Err-keep_topology-clause-sound : goal.returns-in-Err-keep_topology-clause-sound
 returns-in-Err-keep_topology-clause-sound g c tells s asked sound =
-    let image = g.S.Store.image in
     let was = c.in-Ok.ensures.kept.topology tells in
-    c.topology_first.ensures s c.args.store.now c.give_back.new.store sound
-    (topology_written c.args.asked s (image c.args.store.now) (image c.give_back.new.store) asked (was.0, was.1) (returns-in-Err-keep_topology-clause-left g c tells))
+    c.topology_first.ensures s c.args.store.now c.give_back.new.store sound (topology_written c.args.asked s _ _ asked (was.0, was.1) (returns-in-Err-keep_topology-clause-left g c tells))
 
 pub returns-in-Err-keep_topology-clause-grown : goal.returns-in-Err-keep_topology-clause-grown
 returns-in-Err-keep_topology-clause-grown g c tells =
-    let image = g.S.Store.image in
-    back_grown g.S.Disk.Disk.image (image c.args.store.now) (image c.open_for.new.store) (topology_lent c.in-Ok.open.topology.journal.disk) (topology_lent c.keep_topology.new.topology.journal.disk) _
-    (c.in-Ok.ensures.lent tells) refl (image c.give_back.new.store) (c.give_back.ensures.left tells) (c.in-Err-keep_topology.ensures.grows tells)
+    back_grown _ _ _ _ (topology_lent c.keep_topology.new.topology.journal.disk) _ (c.in-Ok.ensures.lent tells) refl _ (c.give_back.ensures.left tells) (c.in-Err-keep_topology.ensures.grows tells)
 
 pub returns-in-Ok-keep_topology-clause-plan : goal.returns-in-Ok-keep_topology-clause-plan
 returns-in-Ok-keep_topology-clause-plan g c planned =
-    let d = g.S.Disk.Disk in
-    let s = g.S.Store in
-    first_used d s c.args.store.now c.open_for.new.store 4 (topology_lent c.in-Ok.open.topology.journal.disk) (topology_lent c.keep_topology.new.topology.journal.disk) _ refl (c.in-Ok-keep_topology.ensures.plan planned) (c.in-Ok.ensures.plan planned)
+    first_used _ _ _ _ 4 _ (topology_lent c.keep_topology.new.topology.journal.disk) _ refl (c.in-Ok-keep_topology.ensures.plan planned) (c.in-Ok.ensures.plan planned)
 
 pub returns-in-Err-keep_topology-clause-early : goal.returns-in-Err-keep_topology-clause-early
 returns-in-Err-keep_topology-clause-early g c planned =

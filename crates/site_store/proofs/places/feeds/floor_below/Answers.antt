@@ -1,18 +1,17 @@
-use Rattle.std.proofs.Common.{◌≡◌, ◌∙◌, subst, arith, List, ℕ}
-use Rattle.site_store.proofs.Words.{NoneBetween, IsFloorFrom, IsBehindFeed}
+use Rattle.std.proofs.Common.{◌≡◌, ◌∙◌, arith}
 use Rattle.site_store.proofs.Stretches.{floor_found, floor_lower, floor_none}
 use Rattle.site_store.proofs.places.feeds.floor_below.Goals as goal
 
 pub returns-then-floor-from-clause-floor : goal.returns-then-floor-from-clause-floor
 returns-then-floor-from-clause-floor g c = λ t.
-    let here = subst (λ (log : List ℕ). IsFloorFrom (IsBehindFeed log) c.saturating_sub-from.result c.loop-to.to c.in_ok-floor.floor) (c.loop-to.invariant.same t) (c.in_ok-floor.ensures.floor t) in
+    let here = rw (c.loop-to.invariant.same t) at (c.in_ok-floor.ensures.floor t) in
     floor_found _ _ c.loop-to.to c.args.at c.in_ok-floor.floor here c.if-floor-from.true c.loop-to.invariant.below (c.loop-to.invariant.none t)
 
 pub loop-to-preserved : goal.loop-to-preserved
 loop-to-preserved g c =
     record {
       none = λ t.
-          let here = subst (λ (log : List ℕ). IsFloorFrom (IsBehindFeed log) c.saturating_sub-from.result c.loop-to.to c.in_ok-floor.floor) (c.loop-to.invariant.same t) (c.in_ok-floor.ensures.floor t) in
+          let here = rw (c.loop-to.invariant.same t) at (c.in_ok-floor.ensures.floor t) in
           floor_lower _ _ c.loop-to.to c.args.at c.in_ok-floor.floor here c.if-floor-from.false (c.loop-to.invariant.none t);
       below = omega (arith, c.loop-to.invariant.below, c.saturating_sub-from.ensures);
       same = λ t. c.in_ok-floor.ensures.same t ∙ c.loop-to.invariant.same t;
@@ -22,4 +21,4 @@ loop-to-preserved g c =
 pub returns-clause-floor : goal.returns-clause-floor
 returns-clause-floor g c = λ t.
     let zero : c.loop-to.to ≡ 0 = omega (arith, c.loop-to-test.false) in
-    floor_none _ c.args.at (subst (λ k. NoneBetween (IsBehindFeed (g.L.LogFile.bytes c.args.log.now)) k c.args.at) zero (c.loop-to.invariant.none t))
+    floor_none _ c.args.at (rw zero at (c.loop-to.invariant.none t))

@@ -1,8 +1,7 @@
-use Rattle.std.proofs.Common.{inl, inr, ⊎_elim, [], ◌∷◌, refl, arith}
+use Rattle.std.proofs.Common.{inl, inr, [], ◌∷◌, refl, arith}
 use Rattle.std.specs.Fmt.{digits}
 use Rattle.site_store.proofs.Words.{one_click, Retry}
 use Rattle.event_id.specs.EventId.{spell, dotted}
-use Rattle.site_store.proofs.Worked.{one_boundary, one_start}
 use Rattle.site_store.proofs.places.rows.one_line_log.Goals as goal
 
 pub returns-clause-line : goal.returns-clause-line
@@ -13,20 +12,7 @@ pub returns-clause-end : goal.returns-clause-end
 returns-clause-end c = (inr (record { place = 0; end_ = 36; click = one_click }, inl refl, refl), (inl refl, tt))
 
 pub returns-clause-last_byte : goal.returns-clause-last_byte
-returns-clause-last_byte c =
-    record {
-      before = [];
-      after = [];
-      order = refl;
-      fit = tt;
-      misfit = λ b. ⊎_elim (λ e. absurd (omega arith)) (λ e. absurd (omega arith)) (one_boundary 35 b);
-      floor_is = record {
-        above = omega arith;
-        below = omega arith;
-        is = inl refl;
-        none = λ q low high b. ⊎_elim (λ e. absurd (omega arith)) (λ e. absurd (omega arith)) (one_boundary q b);
-      };
-    }
+returns-clause-last_byte c = record { before = []; after = []; order = refl; fit = tt; misfit = grind arith; floor_is = grind arith }
 
 pub returns-clause-start : goal.returns-clause-start
 returns-clause-start c = ((record { place = 0; end_ = 36; click = one_click }, refl), tt)
@@ -38,11 +24,6 @@ returns-clause-no_start c =
       after = record { disk = Retry 0; kept = 7 } ∷ [];
       order = refl;
       fit = ((record { place = 0; end_ = 36; click = one_click }, refl), tt);
-      misfit = λ s. let e = one_start 36 s in absurd (omega arith);
-      floor_is = record {
-        above = omega arith;
-        below = omega arith;
-        is = inl refl;
-        none = λ q low high s. let e = one_start q s in absurd (omega arith);
-      };
+      misfit = grind arith;
+      floor_is = grind arith;
     }

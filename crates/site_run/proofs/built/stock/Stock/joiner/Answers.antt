@@ -1,27 +1,24 @@
-use Rattle.std.proofs.Common.{◌≡◌, [], ◌∷◌, refl, sym, ap, subst, ◌∙◌, is_some, arith}
-use Rattle.site_run.proofs.Words.{Joiner, is_named, number_of}
-use Rattle.outside.specs.declared.store.DiskName.TheVariants as name
-use Rattle.site_run.proofs.Making.{made, put_log, put_two, two_used, unmade}
-use Rattle.site_run.proofs.Naming.{IsSeat, seat_of}
-use Rattle.site_run.proofs.Placing.{down_at, joiner_number}
-use Rattle.site_run.proofs.Taken.{joiner_said, pair_lent, still_there}
+use Rattle.std.proofs.Common.{◌≡◌, [], ◌∷◌, refl, sym, ap, subst, ◌∙◌, arith}
+use Rattle.site_run.proofs.Words.{Joiner, is_named, number_of, EpochDisk, OutputDisk}
+use Rattle.site_run.proofs.Making.{down_at, joiner_number, joiner_said, made, pair_lent, put_log, put_two, still_there, two_used, unmade}
+use Rattle.site_run.proofs.Places.{IsSeat, seat_of}
 use Rattle.site_run.proofs.built.stock.Stock.joiner.Goals as goal
 
 pub take_disk-requires : goal.take_disk-requires
 take_disk-requires g c =
     let seat = subst (λ p. IsSeat c.args.self.now.config c.args.number p.0 p.1) (sym c.joiner_place-site.ensures) (seat_of _ _ c.requires.number.0 c.requires.number.1) in
-    record { there = c.requires.left.there _ (is_named _ _ (name.Epoch _ _) (seat.site_below, seat.place_below)) (omega (arith, seat.number)) }
+    record { there = c.requires.left.there _ (is_named _ _ (EpochDisk _ _) (seat.site_below, seat.place_below)) (omega (arith, seat.number)) }
 
 pub take_disk-requires-2 : goal.take_disk-requires-2
 take_disk-requires-2 g c =
     let seat = subst (λ p. IsSeat c.args.self.now.config c.args.number p.0 p.1) (sym c.joiner_place-site.ensures) (seat_of _ _ c.requires.number.0 c.requires.number.1) in
-    record { there = still_there _ _ _ _ _ c.take_disk.ensures.name c.take_disk.ensures.taken (λ e. cc e) (c.requires.left.there _ (is_named _ _ (name.Output _ _) (seat.site_below, seat.place_below)) (omega (arith, seat.number))) }
+    record { there = still_there _ _ _ _ _ c.take_disk.ensures.name c.take_disk.ensures.taken (λ e. cc e) (c.requires.left.there _ (is_named _ _ (OutputDisk _ _) (seat.site_below, seat.place_below)) (omega (arith, seat.number))) }
 
 pub take_last-log-requires : goal.take_last-log-requires
 take_last-log-requires g c = omega (arith, c.requires.left.queries, c.requires.number.0, c.requires.number.1)
 
-pub new-requires-clause-joiner : goal.new-requires-clause-joiner
-new-requires-clause-joiner g c = (subst (λ p. IsSeat c.args.self.now.config c.args.number p.0 p.1) (sym c.joiner_place-site.ensures) (seat_of _ _ c.requires.number.0 c.requires.number.1)).place_below
+pub joiner_node-requires-clause-joiner : goal.joiner_node-requires-clause-joiner
+joiner_node-requires-clause-joiner g c = (subst (λ p. IsSeat c.args.self.now.config c.args.number p.0 p.1) (sym c.joiner_place-site.ensures) (seat_of _ _ c.requires.number.0 c.requires.number.1)).place_below
 
 pub returns-in-Ok : goal.returns-in-Ok
 returns-in-Ok g c =
@@ -35,8 +32,8 @@ returns-in-Ok g c =
     let at : c.in-Ok.node.number ≡ c.args.number = omega (arith, node.number, seat.number) in
     made _ _ _ _ (a ∷ b ∷ []) [] (c.take_last-log.result ∷ [])
     (two_used _ _ _ _ a b _ _ c.requires.number.0 c.requires.number.1 refl one.taken two.taken (ap (number_of k) one.name ∙ seat.number) (ap (number_of k) two.name ∙ seat.number) refl c.take_last-log.ensures.items) _ _ _ _ _ _ c.requires.left _ refl refl
-    (record { numbered = at; up = ap is_some node.up })
-    (pair_lent a b _ _ _ _ (one.name ∙ ap (λ p. name.Epoch p.0 p.1) c.joiner_place-site.ensures) (two.name ∙ ap (λ p. name.Output p.0 p.1) c.joiner_place-site.ensures)
+    (record { numbered = at; up = node.up })
+    (pair_lent a b _ _ _ _ (one.name ∙ ap (λ p. EpochDisk p.0 p.1) c.joiner_place-site.ensures) (two.name ∙ ap (λ p. OutputDisk p.0 p.1) c.joiner_place-site.ensures)
     (c.into_epochs-epochs.ensures.disk ∙ ap (λ j. j.journal.disk) (sym node.disks.0)) (c.into_output-outputs.ensures.disk ∙ ap (λ j. j.disk) (sym node.disks.1)))
     (ap (λ l. l ∷ []) node.log)
     (λ tells s d of places own.

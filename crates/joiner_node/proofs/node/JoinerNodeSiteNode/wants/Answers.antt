@@ -1,5 +1,0 @@
-use Rattle.joiner_node.proofs.Turning.{up_stands}
-use Rattle.joiner_node.proofs.node.JoinerNodeSiteNode.wants.Goals as goal
-
-pub returns : goal.returns
-returns g c up s at l live = c.wants.ensures s.node.setting s.number s.node.kept l (rw (← c.core.ensures) at (up_stands _ _ _ s l at up live))

@@ -1,5 +1,0 @@
-use Rattle.registry_server.proofs.Landing.{up_stands}
-use Rattle.registry_server.proofs.node.ServerNodeSiteNode.unfinished.Goals as goal
-
-pub returns : goal.returns
-returns g c = λ waits s at l up. c.unfinished.ensures s.setting s.kept.disk l (rw (← c.core.ensures) at (up_stands _ _ _ _ _ _ s l waits at up))
