@@ -5,7 +5,7 @@ usage: .ci/pages.py
 
 1. Each crate of crates.txt stands in docs/ARCHITECTURE.md, its name in backticks.
 2. Each path that README.md, CONTRIBUTING.md or a page of docs/ names in backticks is there, if it begins with docs/, crates/, examples/,
-   bin/, bench/ or .ci/, and so is each link that isn't one to the outside. Patterns (NAME, *, .., angle brackets) are skipped, and what a
+   bin/, bench/, tests/ or .ci/, and so is each link that isn't one to the outside. Patterns (NAME, *, .., angle brackets) are skipped, and what a
    build leaves (out/).
 3. In the code blocks of README.md, docs/GUIDE.md, docs/DRILLS.md and docs/SCALE.md a line that begins with "$ " is a command, and what follows
    it, up to the next command or the block's end, is what it prints: standard output, then standard error. A line ".." stands for any lines,
@@ -26,7 +26,7 @@ import tempfile
 
 TOP = os.path.dirname(os.path.dirname(os.path.abspath(__file__)))
 SHOWN = ["README.md", "docs/GUIDE.md", "docs/DRILLS.md", "docs/SCALE.md"]
-HOMES = ("docs/", "crates/", "examples/", "bin/", "bench/", ".ci/")
+HOMES = ("docs/", "crates/", "examples/", "bin/", "bench/", "tests/", ".ci/")
 LIMIT = 300  # seconds for a command
 
 failures = []

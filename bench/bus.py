@@ -3,7 +3,7 @@
 
 usage: bench/bus.py [TURNS]      (default: 200000)
 
-The program is `bench_parts` with its part `bus`: each of 1, 4 and 8 threads takes TURNS turns of its node in all, a begin and an
+The program is that of bench/parts with its part `bus`: each of 1, 4 and 8 threads takes TURNS turns of its node in all, a begin and an
 end each, without packets, so that what is timed is the lock and the little that each call changes. The Rust program keeps the
 number of entries, the nodes' phases and the number of open turns under a Mutex. Each is timed as a process, the best of three, less
 the same process with no turn. Where there is no rustc the Rust column is left out. Nothing is written outside a temporary folder.

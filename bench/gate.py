@@ -5,6 +5,8 @@ usage: bench/gate.py                   the crates, the longest chain of them, th
        bench/gate.py --check N C P     the same; exits with 1 where there are more than N crates, a chain of more than C or more than P paths
        bench/gate.py --stamp           a filter: each line of standard input, behind the seconds since the start
        bench/gate.py --clock FILE      a table by crate of a gate's output, as .ci/run 2>&1 | bench/gate.py --stamp > FILE leaves it
+       bench/gate.py --part FILE NAME COMMAND..   runs a part of the gate, and adds a line to the file: its minutes of processor and of wall time
+       bench/gate.py --parts FILE SECONDS         prints these lines as a table, with the sum, and the wall time of all
 
 A path goes from a crate to itself or to a library, over libraries, since rt reads the sources below a crate anew on each path.
 
@@ -15,6 +17,8 @@ a proof on several lanes held it up; else it may have waited for a lane. The ord
 """
 import os
 import re
+import signal
+import subprocess
 import sys
 import time
 from pathlib import Path
@@ -132,10 +136,35 @@ def clock(root, file, lanes):
     print(f"nothing was left to prove at {last:.0f} seconds")
 
 
+def run_part(file, name, command):
+    """Runs a part of the gate, and adds what it used to the file: the name behind both numbers. Gives its status."""
+    begin = time.monotonic()
+    child = subprocess.Popen(command)
+    signal.signal(signal.SIGTERM, lambda *_: child.terminate())
+    _, status, used = os.wait4(child.pid, 0)
+    with open(file, "a", encoding="utf-8") as figures:
+        figures.write(f"{(used.ru_utime + used.ru_stime) / 60:.2f} {(time.monotonic() - begin) / 60:.2f} {name}\n")
+    code = os.waitstatus_to_exitcode(status)
+    return code if code >= 0 else 128 - code
+
+
+def tell_parts(file, seconds):
+    """The table of the parts. Some run beside others, so the wall time of all isn't the sum of theirs."""
+    rows = [line.split(" ", 2) for line in Path(file).read_text(encoding="utf-8").splitlines()]
+    print(f"{'minutes of':34} processor     wall")
+    for processor, wall, name in rows:
+        print(f"{name:34} {float(processor):9.1f} {float(wall):8.1f}")
+    print(f"{'all':34} {sum(float(row[0]) for row in rows):9.1f} {seconds / 60:8.1f}")
+
+
 def main(words):
+    if words[:1] == ["--part"] and len(words) > 3:
+        return run_part(words[1], words[2], words[3:])
     shape = [it if it.startswith("--") else "N" if it.isdigit() else "FILE" for it in words]
     if shape in ([], ["--check", "N", "N", "N"]):
         return 0 if sizes(TOP, [int(it) for it in words[1:]]) else 1
+    if shape == ["--parts", "FILE", "N"]:
+        return tell_parts(words[1], int(words[2]))
     if shape == ["--stamp"]:
         return stamp()
     if shape in (["--clock", "FILE"], ["--clock", "FILE", "--lanes", "N"]):

@@ -3,7 +3,7 @@
 
 usage: bench/parts.py [COUNT]      (default: 1000000)
 
-The program `bench_parts` does one part COUNT times: `apply` (inserts in batches of 64), `apply_timed` (the same where the ids
+The program of bench/parts does one part COUNT times: `apply` (inserts in batches of 64), `apply_timed` (the same where the ids
 are kept by time, under a bound that rises with each batch), `replay` (each insert asked once more, behind the applying),
 `encode` and `decode` (an Insert packet). Of the air between nodes (`air`) it sends COUNT packets, a third of them late, to one inbox, and
 takes them when all wait; told are the time a packet for a tenth of COUNT and for COUNT, and the memory that a packet of four bytes

@@ -1,5 +1,6 @@
 """What the scripts that measure share: programs that are run and what they used, made logs, and tools that may be missing."""
 import collections
+import contextlib
 import os
 import shutil
 import subprocess
@@ -7,6 +8,9 @@ import sys
 import time
 
 TOP = os.path.dirname(os.path.dirname(os.path.abspath(__file__)))
+sys.path.insert(0, os.path.join(TOP, "tests"))
+import drivers
+
 PHOTON = os.environ.get("PHOTON", os.path.join(TOP, "bin", "photon"))
 
 # Seconds of wall time and of the processors, megabytes of the largest resident set of one process, context switches. The system counts what
@@ -32,14 +36,17 @@ def build():
 
 
 def build_parts():
-    """Builds `bench_parts` where it can be, and gives its path; ends where there is none."""
-    crate = os.path.join(TOP, "crates/bench_parts")
-    program = os.path.join(crate, "out/bench_parts")
-    if shutil.which("rt") is not None:
-        print("building bench_parts; from nothing this takes some minutes", file=sys.stderr)
-        subprocess.run(["rt", "run", "--", "none"], cwd=crate, stdout=subprocess.DEVNULL, stderr=subprocess.DEVNULL, check=False)
-    if not os.path.exists(program):
-        sys.exit("bench_parts isn't built: nothing timed")
+    """Builds `bench_parts`, proved as `rt run` wants it, where it isn't built of these sources, and gives its path; ends where that can't be."""
+    program = os.path.join(drivers.PARTS, "out", "bench_parts")
+    if not drivers.is_newest(program, "bench_parts") and drivers.has_toolchain():
+        print("building bench_parts; over libraries that the gate built some minutes, from nothing an hour", file=sys.stderr)
+        with drivers.crate("bench_parts", is_proved=True) as crate:
+            subprocess.run(["rt", "run", "--", "none"], cwd=crate, stdout=subprocess.DEVNULL, stderr=subprocess.DEVNULL, check=False)
+            with contextlib.suppress(FileNotFoundError):
+                os.makedirs(os.path.dirname(program), exist_ok=True)
+                shutil.copy(os.path.join(crate, "out", "bench_parts"), program)
+    if not drivers.is_newest(program, "bench_parts"):
+        sys.exit("bench_parts isn't built of these sources: nothing timed")
     return program
 
 

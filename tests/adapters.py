@@ -14,8 +14,9 @@ from texts import BULK, DRILL, JOIN, REPORT, VERIFY, one_line
 # What each command prints in a directory with the worked click.
 PRINTED = [(JOIN, REPORT), (DRILL, REPORT), (VERIFY, REPORT), (BULK, b"= 8 0 1 1\n")]
 # A call that is refused, or fails, with its status and its text.
-TOLD = [([], 2, None), ([*JOIN, "--shards", "1:4"], 2, b"photon: table: row 0\n"), ([*JOIN[:2], "nowhere", *JOIN[3:]], 4, b"photon: read: queries\n"),
-        ([*JOIN[:6], "file"], 6, b"photon: store: directory\n"), ([*JOIN, "--joiners", "2"], 9, b"photon: topology: joiners 1 2\n")]
+TOLD = [([], 2, None), ([*JOIN, "--shards", "1:4"], 2, b"photon: table: row 0\n"), ([*JOIN[:2], "nowhere", *JOIN[3:]], 4,
+         b"photon: read: queries\nphoton: because: nowhere: it isn't there\n"),
+        ([*JOIN[:6], "file"], 6, b"photon: store: directory\nphoton: because: file: it isn't a directory\n"), ([*JOIN, "--joiners", "2"], 9, b"photon: topology: joiners 1 2\n")]
 
 
 # ---- terminals
@@ -91,6 +92,7 @@ def read(case, name):
 def long_report(case):
     """Logs whose report is longer than a pipe holds, and the report."""
     case.write("queries", b"")
+    os.mkdir(case.path("state"))
     lines = [((9, 9, number), (1, 1, 1), b"click") for number in range(8000)]
     case.write("clicks", b"".join(model.click_line(line) for line in lines))
     return b"".join(b"U " + model.id_text(event) + b"\n" for event, _, _ in lines) + b"= 0 0 0 8000\n"
@@ -169,9 +171,10 @@ def join_of(queries, clicks):
 
 
 def odd_logs(case):
-    """A device that is empty, a pipe, and a link as a log."""
+    """A device that is empty, one that isn't, a pipe that is held open, and a link as a log."""
     one_line(case)
     case.expect(join_of("/dev/null", "/dev/null"), 0, "", b"= 0 0 0 0\n")
+    case.expect(join_of("queries", "/dev/zero"), 4, "photon: read: clicks")
     os.mkfifo(case.path("pipe"))
     os.symlink("clicks", case.path("link"))
     holder = os.open(case.path("pipe"), os.O_RDWR)

@@ -6,6 +6,8 @@ import signal
 import subprocess
 import time
 
+import because
+
 LIMIT = float(os.environ.get("PHOTON_TEST_LIMIT", "600"))  # seconds for a call of the program
 MEMORY = 1500  # megabytes that a call may take
 PAGE = os.sysconf("SC_PAGE_SIZE")
@@ -21,10 +23,13 @@ class Skipped(Exception):
 
 
 class Ended:
-    """How a call of the program ended."""
+    """How a call of the program ended. A line that tells a reason stands by itself, in `because`."""
 
     def __init__(self, status, out, err):
-        self.status, self.out, self.err = status, out, err.decode("utf-8", "replace").strip()
+        lines = err.decode("utf-8", "replace").strip().split("\n")
+        self.status, self.out = status, out
+        self.because = [line for line in lines if line.startswith(because.FRONT)]
+        self.err = "\n".join(line for line in lines if line not in self.because)
 
 
 class Case:
@@ -36,6 +41,7 @@ class Case:
         self.random = random.Random(f"{seed} {name}")
         self.steps, self.children = [], []
         self.settings = {}  # of each call of the program from now on
+        self.told, self.rows = "", 0  # a line that is printed where the case passes, and the rows of a script that it played
 
     # ---- files
 
@@ -94,15 +100,19 @@ class Case:
                 self.check(megabytes(child) < MEMORY, f"the program takes over {MEMORY} megabytes: {self.steps[-1]}")
         ended = Ended(child.returncode, out or b"", err or b"")
         self.note(f"  status {ended.status}; {ended.err or 'nothing on standard error'}; {len(ended.out)} bytes of output")
+        wrong = because.wrong_with(ended.err, ended.because)
+        self.check(not wrong, wrong)
         return ended
 
     def run(self, words, **more):
         """Runs the program to its end."""
         return self.end(self.start(words, **more))
 
-    def expect(self, words, status, err, out=b"", **more):
-        """Runs the program, and compares all that it tells."""
+    def expect(self, words, status, err, out=b"", reason=None, **more):
+        """Runs the program, and compares all that it tells; of a reason only where one is given, as `PATH: REASON`, "" for none."""
         ended = self.run(words, **more)
+        if reason is not None:
+            self.check_same(ended.because, [because.FRONT + reason] if reason else [], f"the reason behind {ended.err!r}, {self.steps[-2]}")
         self.check((ended.status, ended.err) == (status, err),
                    f"status {ended.status}, {ended.err!r}; by the pages {status}, {err!r}: {self.steps[-2]}")
         if out is not None:

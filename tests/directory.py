@@ -117,7 +117,11 @@ class Directory:
         self.case.check(missing <= most, f"{missing} clicks are missing after {self.stops} stops")
 
     def verify(self):
-        """A verification: the report of what the journals keep, 1 where a click is missing; no record is lost or added."""
+        """A verification: the report of what the journals keep, 1 where a click is missing; no record is lost or added. It makes no directory."""
+        if not os.path.isdir(self.case.path(self.state)):
+            self.case.expect(self.verify_words(), 6, "photon: store: directory")
+            self.case.check(not os.path.exists(self.case.path(self.state)), "a verification has made a directory")
+            return
         store = self.read()
         expected = stores.report_of_store(store, model.records(self.clicks))
         missing = model.letters_of(expected)[1].split()[2] != "0"

@@ -11,7 +11,6 @@ from directory import Directory
 from power import Machine
 
 KINDS = ("eio", "enospc", "eintr", "short", "sync", "drop", "power", "kill")
-IN_DOUBT = 65_541  # bytes from a file's end that are written again when it is opened
 UNSEEN = ("eintr", "short", "")  # what no run may show
 
 
@@ -124,17 +123,29 @@ def failed_sync(case):
     trouble(case, case.random.choice([1, 4]), case.random.random() < 0.5, [f"sync:{first}{then}"])
 
 
+def losses(case):
+    """Syncs that fail, then a loss of power in the work or at an opening, five times over one directory: nothing acknowledged is lost."""
+    plans = []
+    for _ in range(5):
+        first = case.random.choice([case.random.randrange(90), case.random.randrange(90, 300)])
+        kinds = case.random.choice([["sync"], ["drop"], ["sync", "sync"], ["sync", "drop"], []])
+        before = [f"{kind}:{max(0, first - case.random.randrange(1, 30))}" for kind in kinds]
+        plans.append(",".join([*before, f"{case.random.choice(['power', 'power', 'kill'])}:{first}"]))
+    trouble(case, case.random.choice([1, 1, 2]), case.random.random() < 0.7, plans)
+
+
 # ---- what the checks stand on
 
 def expected_calls(directory, before, name):
-    """The calls for one disk in a join, by the pages: it is opened or made, its end written again, and each new record is appended."""
+    """The calls for one disk in a join, by the pages, and those for its mark: it is opened or made, and each new record is appended; the mark
+    stands while there was something to write."""
     old, new = before.files.get(name, b""), directory.read().files[name]
-    place, sync = max(0, len(old) - IN_DOUBT), ("datasync", 0, 0)
-    calls = [("open", 0, 0), ("write", place, len(old) - place) if old else ("open", 0, 0), sync]
+    sync = ("datasync", 0, 0)
+    calls = [("open", 0, 0), sync]
     calls += [("write", 0, 1), sync] if len(old) <= 1 else []
     for at, payload in stores.gate_rule(new)[0][len(before.records.get(name, [])):]:
         calls += [("write", at, len(payload) + 5), sync, ("write", at - 1, 1), sync]
-    return calls
+    return {f"/state/{name}": calls, **({f"/state/{name}.doubt": [("open", 0, 0), ("unlink", 0, 0)]} if len(calls) > 2 else {})}
 
 
 def calls(case):
@@ -155,9 +166,9 @@ def calls(case):
         disks = stores.disk_names(1)
         names = ("sync", 0, 0)  # once, and for each name that is made
         others = {"": [names], "/state": [*([] if before.files else [("mkdir", 0, 0), *[names] * len(disks)]), names]}
-        expected = {f"/state/{name}": expected_calls(directory, before, name) for name in disks}
+        expected = {path: calls for name in disks for path, calls in expected_calls(directory, before, name).items()}
         case.check_same(found, {**expected, **others}, "the calls of a join")
-    case.check(any(len(data) > IN_DOUBT for data in directory.copy_files().values()), "no file is long")
+    case.check(any(len(data) > 65_541 for data in directory.copy_files().values()), "no file is long")
 
 
 def lies(case):

@@ -4,12 +4,16 @@ import chosen
 import debian
 import disks
 import drills
+import faults
 import journals
 import kills
+import looks
+import lost
 import many
 import odd
 import reshard
 import runs
+import scripts
 import strict
 import texts
 import traces
@@ -18,10 +22,11 @@ import worked
 
 
 class Group:
-    """A name with its cases: those of a list, or so many random ones of one function for each seed, to which more may be added."""
+    """A name with its cases: those of a list, or so many random ones of one function for each seed, to which more may be added. Some are
+    run only where they are asked for by name."""
 
-    def __init__(self, name, function=None, count=0, listed=(), takes_more=False):
-        self.name, self.function, self.count, self.listed, self.takes_more = name, function, count, listed, takes_more
+    def __init__(self, name, function=None, count=0, listed=(), takes_more=False, is_asked=False):
+        self.name, self.function, self.count, self.listed, self.takes_more, self.is_asked = name, function, count, listed, takes_more, is_asked
 
     def cases(self, more=0):
         """Each case's name and function, and whether it takes random numbers."""
@@ -58,9 +63,14 @@ GROUPS = [
     Group("at_random", disks.at_random, 15, takes_more=True),
     Group("failed_sync", disks.failed_sync, 40, takes_more=True),
     Group("disks", listed=disks.LISTED),
+    Group("losses", disks.losses, 20, takes_more=True),
     Group("odd", listed=odd.LISTED),
+    Group("looks", listed=looks.CASES),
+    Group("lost", listed=lost.CASES),
+    Group("faults", listed=faults.CASES),
     Group("full_mount", odd.full, 4),
     Group("vanish", odd.vanish, 4),
+    Group("moved", odd.moved, 8),
     Group("shrink", odd.shrink, 4),
     Group("reshard", listed=reshard.CASES),
     Group("rows", reshard.invented, 40),
@@ -73,4 +83,6 @@ GROUPS = [
     Group("watch_live", watch.live, 1),
     Group("debian", listed=debian.CASES),
     Group("chosen", listed=chosen.CASES),
+    Group("scripts", listed=scripts.CASES),
+    Group("later", listed=faults.LATER, is_asked=True),
 ]

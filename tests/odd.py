@@ -63,23 +63,6 @@ def odd_disk(put):
     return run
 
 
-def linked_disk(case):
-    """A link to a disk that lies elsewhere, or that isn't there yet, is as good as the disk."""
-    directory = joined(case)
-    folder = case.path(directory.state)
-    for name in case.random.sample(stores.disk_names(1), 3):
-        os.rename(os.path.join(folder, name), case.path(f"far.{name}"))
-        os.symlink(f"../far.{name}", os.path.join(folder, name))
-    directory.verify()
-    directory.join()
-    directory.state = "state.new"
-    directory.seen, directory.joined = stores.Store({}, 1), set()
-    os.mkdir(case.path("state.new"))
-    os.symlink("../far.new", case.path("state.new/output-A0"))
-    directory.join()
-    case.check(os.path.isfile(case.path("far.new")), "the link's file wasn't made")
-
-
 # ---- what may not be written
 
 def as_nobody(case):
@@ -108,20 +91,21 @@ def read_only(case):
         for name in before:
             os.chmod(os.path.join(folder, name), of_files)
         os.chmod(folder, mode)
-        for words in (directory.join_words(), directory.verify_words()):
+        for words in (directory.join_words(), directory.reshard_words((logs.LATEST, 1))):
             case.expect(words, 6, f"photon: store: {text}")
+        if mode & 0o1:
+            directory.verify()
+        else:
+            case.expect(directory.verify_words(), 6, f"photon: store: {text}")
         os.chmod(folder, 0o755)
         case.check(directory.copy_files() == before, "a refused run has changed files")
     for name in before:
         os.chmod(os.path.join(folder, name), 0o666)
     os.chmod(folder, 0o555)
     directory.verify()
+    case.check(case.run(directory.join_words()).status in (0, 6), "a join over a directory in which no file may be made")
+    os.chmod(folder, 0o777)
     directory.join()
-    missing = case.random.choice(stores.disk_names(1))
-    os.chmod(folder, 0o755)
-    os.remove(os.path.join(folder, missing))
-    os.chmod(folder, 0o555)
-    case.expect(directory.join_words(), 6, f"photon: store: {missing}")
     os.chmod(folder, 0o755)
     os.mkdir(case.path("above"), 0o555)
     directory.state = "above/state"
@@ -168,22 +152,6 @@ def full(case):
         directory.verify()
 
 
-def read_only_mount(case):
-    """A file system that is read-only: 6 with the first disk; a new directory can't be made. Nothing changes."""
-    directory = joined(case)
-    with mounted(case, "8m") as place:
-        shutil.copytree(case.path(directory.state), os.path.join(place, "state"))
-        mount_again(place, "ro")
-        directory.state = "mounted/state"
-        refused(directory, "topology")
-        directory.state = "mounted/new"
-        refused(directory, "directory")
-        mount_again(place, "rw")
-        directory.state = "mounted/state"
-        directory.join()
-        directory.verify()
-
-
 # ---- what changes in the work of a join
 
 def start_held(directory, call):
@@ -214,15 +182,22 @@ def new_logs(case):
 
 
 def vanish(case):
-    """The directory is moved or removed while a join has it: that ends well or with 6, and makes no directory again; a moved one is sound."""
+    """The directory is moved or removed while a join has it, and another may stand at its name: that ends well or with 6, and nothing is made
+    or written there; a moved one is sound."""
     directory, _ = new_logs(case)
     child = start_held(directory, case.random.choice([2, case.random.randrange(1, 90), case.random.randrange(86, 250)]))
-    moved = case.random.random() < 0.6
+    moved, other = case.random.random() < 0.6, case.random.choice([None, "empty", "copy"])
     os.rename(case.path("state"), case.path("moved"))
+    if other == "empty":
+        os.mkdir(case.path("state"))
+    elif other == "copy":
+        shutil.copytree(case.path("moved"), case.path("state"))
+    before = stores.read_files(case.path("state"))
     if not moved:
         shutil.rmtree(case.path("moved"))
     ended = go_on(case, child)
-    case.check(not os.path.exists(case.path("state")), "the directory was made again")
+    case.check(os.path.exists(case.path("state")) == bool(other), "the directory was made again")
+    check_other(case, before, stores.read_files(case.path("state")))
     directory.state = "moved"
     if moved:
         told(directory, ended)
@@ -232,6 +207,45 @@ def vanish(case):
         case.check((ended.status, ended.err) == (0, "") or ended.status == 6, f"status {ended.status}, {ended.err!r}")
     directory.join()
     directory.verify()
+
+
+def check_other(case, before, after):
+    """Nothing was written into another directory at the old name: a call that was under way when it came there may have made an empty file."""
+    wrong = [name for name, data in before.items() if after.get(name) != data] + [name for name, data in after.items() if name not in before and data]
+    case.check(not wrong and len(after) <= len(before) + 1, f"files of another directory at the old name were changed or made: {wrong or sorted(set(after) - set(before))}")
+
+
+def moved(case):
+    """The directory is moved away from a join, another join runs over a new one at the old name, and then calls of the first one fail. It goes on
+    in its own files or ends with 6: it loses nothing that it reports, and the other's files stay as they were left."""
+    directory, _ = new_logs(case)
+    call = case.random.choice([case.random.randrange(1, 90), case.random.randrange(86, 250)])
+    Machine(case).plan(f"hold:{call},{case.random.choice(['eio', 'sync', 'drop'])}:{call + case.random.randrange(1, 12)}{case.random.choice(['', ':3'])}")
+    child = case.start(directory.join_words())
+    case.settings.clear()
+    os.waitid(os.P_PID, child.pid, os.WSTOPPED | os.WEXITED | os.WNOWAIT)
+    if child.poll() is not None or not os.path.exists(case.path("state")):
+        go_on(case, child)
+        return  # it was too quick, or has no directory yet
+    os.rename(case.path("state"), case.path("moved"))
+    other = Directory(case)
+    other.names = ("queries.other", "clicks.other")
+    maker = logs.Maker(case.random, odd=False)
+    maker.add_queries(20)
+    maker.add_clicks(40)
+    other.give(maker.queries, maker.clicks)
+    other.join()
+    before = other.copy_files()
+    ended = go_on(case, child)
+    check_other(case, before, other.copy_files())
+    directory.state = "moved"
+    directory.stops += 8
+    told(directory, ended)
+    directory.judge("after it was moved, and calls failed")
+    other.verify()
+    directory.join()
+    directory.verify()
+    other.join()
 
 
 def shrink(case):
@@ -298,4 +312,4 @@ def files_of(folder):
 
 
 LISTED = [(f"disk.{name}", odd_disk(put)) for name, put in ODD.items()]
-LISTED += [(function.__name__, function) for function in (linked_disk, read_only, read_only_mount, closed)]
+LISTED += [(function.__name__, function) for function in (read_only, closed)]

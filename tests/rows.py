@@ -1,7 +1,7 @@
 #!/usr/bin/env python3
 """The rows of scripts that are made: what the parts have to answer by the model of the pages, never by the program.
 
-usage: tests/rows.py           checks that crates/*_scripts/stdin have these rows, and that stdout counts all rows that they play
+usage: tests/rows.py           checks that tests/scripts/*/stdin have these rows, and that stdout counts all rows that they play
        tests/rows.py --write   makes the rows anew, and the counts
        tests/rows.py NAME      prints the rows of one place, as `registries`
 
@@ -764,13 +764,18 @@ def set_size(word):
     return int(last) - int(first) + 1 if dots else len(word.split("|"))
 
 
+def scripts():
+    """The scripts."""
+    return sorted(TOP.glob("tests/scripts/*/stdin"))
+
+
 def main(words):
     """Checks the scripts, writes them or prints the rows of one place; gives the status."""
     if words and words[0] in PLACES:
         print("\n".join(made(words[0])))
         return 0
     wrong = 0
-    for path in sorted(TOP.glob("crates/*_scripts/stdin")):
+    for path in scripts():
         old = path.read_text(encoding="utf-8")
         new = remade(old)
         counted = f"{row_count(new)} rows, 0 wrong\n"

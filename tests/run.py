@@ -33,6 +33,7 @@ def read_words():
     parser.add_argument("--seed", type=int, action="append", help=f"a seed of the random cases; if missing {' and '.join(map(str, SEEDS))}")
     parser.add_argument("--random", action="store_true", help="takes one seed by chance")
     parser.add_argument("--case", action="append", help="runs this case, or this group, alone")
+    parser.add_argument("--but", action="append", default=[], help="leaves out this case, or this group")
     parser.add_argument("--more", type=int, default=0, metavar="N", help="so many more cases of disks that fail for each seed: thousands take hours")
     parser.add_argument("--jobs", type=int, default=2, help="how many cases at once; if missing 2")
     parser.add_argument("--list", action="store_true", help="prints the names of the cases")
@@ -45,7 +46,9 @@ def wanted(words, seeds):
     for group in groups.GROUPS:
         for name, function, is_random in group.cases(words.more):
             for seed in seeds if is_random else seeds[:1]:
-                if not words.case or name in words.case or group.name in words.case:
+                names = {name, group.name}
+                is_wanted = names & set(words.case) if words.case else not group.is_asked
+                if is_wanted and not names & set(words.but):
                     found.append((group.name, name, seed, function))
     return found
 
@@ -69,7 +72,7 @@ def keep(folder, case, text):
 
 
 def run_case(top, program, name, seed, function):
-    """Runs one case: what became of it, and the text of its failure, or why it was skipped."""
+    """Runs one case: what became of it, the text of its failure, or why it was skipped, or what it tells, and how many rows it played."""
     folder = tempfile.mkdtemp(prefix=f"{name}.", dir=top)
     library = os.path.join(top, "failing.so")
     case, end, text = Case(name, seed, program, folder, library if os.path.exists(library) else None), "passed", ""
@@ -81,21 +84,24 @@ def run_case(top, program, name, seed, function):
         end, text = "skipped", str(skipped)
     except Exception:
         end, text = "failed", traceback.format_exc()
+    else:
+        text = case.told
     case.close()
     if end == "failed":
         place = keep(folder, case, text)
         text = f"FAILED {name}, seed {seed}; kept in {place}; again by: bin/test --seed {seed} --case {name}\n{text}"
     shutil.rmtree(folder, ignore_errors=True)
-    return end, text
+    return end, text, case.rows
 
 
 def tell_group(name, ends):
-    """Prints each failure of a group, why cases of it were skipped, and how many passed."""
-    for text in [text for end, text in ends if end == "failed"]:
+    """Prints each failure of a group, what cases tell, why some were skipped, and how many passed, with their rows."""
+    for text in [text for end, text, _ in ends if end != "skipped" and text]:
         print(text, flush=True)
-    for why, count in collections.Counter(text for end, text in ends if end == "skipped").items():
+    for why, count in collections.Counter(text for end, text, _ in ends if end == "skipped").items():
         print(f"SKIPPED {count} of {name}, NOT TESTED HERE: {why}", flush=True)
-    print(f"{name}: {sum(end == 'passed' for end, _ in ends)} of {len(ends)} passed", flush=True)
+    rows = sum(rows for end, _, rows in ends if end == "passed")
+    print(f"{name}: {sum(end == 'passed' for end, _, _ in ends)} of {len(ends)} passed{f', {rows} rows' if rows else ''}", flush=True)
 
 
 def run_all(cases, program, jobs):
@@ -107,7 +113,7 @@ def run_all(cases, program, jobs):
         for group in dict.fromkeys(group for group, _ in runs):
             ends = [run.result() for one, run in runs if one == group]
             tell_group(group, ends)
-            count.update(end for end, _ in ends)
+            count.update(end for end, _, _ in ends)
     return count
 
 

@@ -2,6 +2,7 @@
 import os
 import threading
 
+import because
 import fields
 import logs
 import model
@@ -118,7 +119,8 @@ def wrong(case):
     if not told:
         directory.join()
         return
-    case.expect(directory.join_words(), 3, told[0])
+    kind, log, refusal = next((kind, log, why) for log, (kind, why) in zip(kept, refusals) if why)
+    case.expect(directory.join_words(), 3, told[0], reason=because.of_log(directory.names[kind == "clicks"], log, refusal))
     case.check(directory.copy_files() == {}, "the state directory was touched")
     if refusals[1][1]:
         case.expect(directory.verify_words(), 3, f"photon: clicks:{refusals[1][1]}")

@@ -38,9 +38,9 @@ class Judge:
     # ---- the files
 
     def files(self):
-        """The files are those of the pages, and none is damaged; the topology comes first."""
+        """The files are those of the pages, with marks and copies of stopped runs, and none is damaged; the topology comes first."""
         expected = set(stores.disk_names(self.store.joiners))
-        more = set(self.store.files) - expected
+        more = {name for name in self.store.files if name.removesuffix(".doubt").removesuffix(".copy") not in expected}
         if more:
             self.fail(f"there are other files: {sorted(more)}")
         if self.store.damage:
@@ -216,7 +216,7 @@ def wrong_with(store, queries, clicks):
 
 def wrong_at_rest(store, queries, clicks, horizon, before):
     """What is wrong with a store after a join that ended with 0: `before` is the store that the join has opened."""
-    known, wrong = model.records(queries), []
+    known, wrong = model.records(queries), [f"{name} is left" for name in store.files if name.endswith(".doubt")]
     without = {line.start for line in clicks if line.record[1] not in known}
     for site in "AB":
         if store.last(f"offset-{site}") != model.log_end(clicks):

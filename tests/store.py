@@ -302,8 +302,12 @@ def read_files(folder):
 
 
 def write_files(folder, files):
-    """Writes files into a directory, which is made where it isn't there."""
+    """Writes files into a directory, which is made where it isn't there; other files of it that are missing are made empty."""
     os.makedirs(folder, exist_ok=True)
+    kept = Store({**read_files(folder), **files}, 1).topology
+    for name in disk_names(kept[0] if kept else 1):
+        if not os.path.lexists(os.path.join(folder, name)):
+            files = {name: b"", **files}
     for name, data in files.items():
         with open(os.path.join(folder, name), "wb") as file:
             file.write(data)

@@ -70,6 +70,8 @@ def taken(words, out):
     """The words are taken: 0 and this output."""
     def run(case):
         one_line(case)
+        if words[0] == "verify":
+            os.mkdir(case.path("state"))
         case.expect(words, 0, "", out)
     return run
 
@@ -144,6 +146,7 @@ def cut_output(case):
     lines = [model.click_line(((9, 9, number), (1, 1, 1), b"click")) for number in range(700)]
     case.write("queries", b"")
     case.write("clicks", b"".join(lines))
+    os.mkdir(case.path("state"))
     whole = case.run(VERIFY).out
     case.check(whole.endswith(b"= 0 0 0 700\n"), "the totals of a new directory")
     words = shlex.join([case.program, *VERIFY])

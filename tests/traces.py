@@ -2,14 +2,12 @@
 import collections
 import json
 import os
-import subprocess
 import xml.etree.ElementTree as xml
 
-import runs
-from case import TOP, Skipped
+from case import TOP
 
 SAMPLES = os.path.join(TOP, "examples", "drills")
-# Of each plan at which logs, how many stops there are at least and at most.
+# Of each plan over which logs (of examples/), how many stops there are at least and at most.
 PLANS = {"no_faults": ("shop", 0, 0), "lost_and_twice": ("one_line", 0, 0), "losses_and_repeats": ("shop", 0, 0), "all_late": ("shop", 0, 0),
          "dead_replica": ("one_line", 0, 0), "replica_stops": ("one_line", 3, 3), "server_stops": ("one_line", 2, 2), "output_before_gate": ("one_line", 1, 2)}
 
@@ -91,37 +89,24 @@ def refused(case):
         case.check(ended.status == status, f"status {ended.status} of {text!r}, {ended.err!r}")
         case.check(line is None or ended.err.startswith(f"photon-picture: line {line} doesn't follow"), f"{ended.err!r} of {text!r}")
     case.check(case.run(["nowhere"], tool="photon-picture").status == 4, "a file that isn't there")
+    words = ["--queries", "nowhere", "--clicks", "nowhere", "--plan", "nowhere"]
+    case.check(case.run(words, tool="photon-trace").status == 4, "a log that isn't there")
 
 
 # ---- traces
 
-def traced(case, name):
-    """The trace of a drill by a sample plan, in the case's folder."""
-    logs, least, most = PLANS[name]
+def plan_of(name):
+    """A sample plan."""
     with open(os.path.join(SAMPLES, f"{name}.json"), "rb") as file:
-        plan = file.read()
-    for file, data in (("queries", runs.read_example(logs, "queries")), ("clicks", runs.read_example(logs, "clicks")), ("plan", plan)):
-        case.write(file, data)
-    ended = case.run(["--queries", "queries", "--clicks", "clicks", "--plan", "plan"], tool="photon-trace")
-    case.check((ended.status, ended.err) == (0, ""), f"status {ended.status}, {ended.err!r}")
-    arrows, stops = compare_trace(case, ended.out.decode().splitlines(), json.loads(plan))
+        return file.read()
+
+
+def compare_traced(case, name, lines):
+    """The trace of a drill by a sample plan fits the plan, and so does its picture."""
+    least, most = PLANS[name][1:]
+    arrows, stops = compare_trace(case, lines, json.loads(plan_of(name)))
     case.check(least <= stops <= most, f"{stops} stops by {name}")
-    compare_picture(case, case.write("trace", ended.out), arrows, stops)
+    compare_picture(case, case.write("trace", "".join(f"{line}\n" for line in lines).encode()), arrows, stops)
 
 
-def is_built():
-    """Whether the program that traces is built of these sources."""
-    asked = ["sh", "-c", 'top=$1; . "$top/bin/sources.sh"; is_newest "$top/crates/program_scripts/out/program_scripts"', "sh", TOP]
-    return subprocess.run(asked, check=False).returncode == 0
-
-
-def drill(name):
-    """A case of a sample plan."""
-    def run(case):
-        if not is_built():
-            raise Skipped("crates/program_scripts isn't built of these sources")
-        traced(case, name)
-    return run
-
-
-CASES = [("pictures", pictures), ("refused", refused)] + [(name, drill(name)) for name in PLANS]
+CASES = [("pictures", pictures), ("refused", refused)]

@@ -37,7 +37,7 @@ pub(crate) const QUERIES: Opt = option!("queries", Form::AnyText, None; "The que
 pub(crate) const CLICKS: Opt = option!("clicks", Form::AnyText, None; "The click log");
 
 pub(crate) const STATE: Opt = option!("state", Form::AnyText, None;
-    "The directory of the journals, made if missing");
+    "The directory of the journals; a join makes it if missing");
 
 pub(crate) const PLAN: Opt = option!("plan", Form::AnyText, None;
     "What goes wrong in the drill, in JSON");

@@ -80,3 +80,12 @@ pub(crate) fn file_path(alloc: Global, dir: &str, name: DiskName) -> Result<Stri
     path.push_str(disk_text(name).as_str())?;
     Ok(path)
 }
+
+/// A path with this behind it.
+pub(crate) fn joined(alloc: Global, path: &str, behind: &str) -> Result<String, AllocError>
+    ensures { IfOk result (λ text. string_bytes text ≡ path.now ++ behind.now) }
+{
+    let mut text = String::from_str(alloc, path)?;
+    text.push_str(behind)?;
+    Ok(text)
+}

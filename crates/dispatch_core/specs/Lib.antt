@@ -6,3 +6,4 @@ pub mod Outboxes
 pub mod Changes
 pub mod Spelled
 pub mod Standing
+pub mod Places

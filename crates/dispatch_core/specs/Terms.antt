@@ -2,7 +2,8 @@
 pub use Rattle.indexmap.specs.IndexSet.{contains, insert_key, spare}
 pub use Rattle.list_words.specs.Lists.{Distinct, Each, has, without}
 pub use Rattle.log_records.specs.Line.{IsClick}
-pub use Rattle.log_records.specs.Lines.{ClickLine, at}
+pub use Rattle.log_records.specs.Lines.{ClickLine, HoldsLines, IsBoundary, at}
+pub use Rattle.log_records.specs.declared.check.TheConstants.{MAX_LOG}
 pub use Rattle.log_records.specs.declared.records.ClickRec.{ClickRec as Click}
 pub use Rattle.std.specs.List.{list_any, zip}
 pub use Rattle.std.specs.Option.{option_map}

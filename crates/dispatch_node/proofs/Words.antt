@@ -6,7 +6,7 @@ pub use Rattle.dispatch_node.specs.Dispatchers.{GoesOn, Knows, Serves, known}
 pub use Rattle.dispatch_node.specs.Follows.{AreInOrder, Follows}
 pub use Rattle.dispatch_node.specs.Journals.{Doubts, Holds, IsFound, are_ready, kept, ready_states}
 pub use Rattle.dispatch_node.specs.Kept.{takes_note}
-pub use Rattle.dispatch_node.specs.Places.{AreKeptPlaces, AreLivePlaces, IsEntry, IsLogOf, IsReadable, StartsAt}
+pub use Rattle.dispatch_core.specs.Places.{AreKeptPlaces, AreLivePlaces, IsEntry, IsLogOf, IsReadable, StartsAt}
 pub use Rattle.dispatch_node.specs.Terms.{AreClicksAt, Carries, Click, ClickLine, DispatchCore, DispatchNote, DispatcherKept, DispatcherLive, Distinct, Each, Fits as FitsStep, Follow, Fresh, HasSameNumbers, IsBoundary, IsClick, IsKept, IsLineAt, IsLookedUp, IsNext, IsTurn, MAX_LOG, Mem, Note, Numbered, Out, Setting, Stands, Step, Throughout, advances, after_done, and_parts, at, changed, click_at, click_line, cond_both, dispatcher_gets, dispatcher_joined, dispatcher_looks, dispatcher_own, dispatcher_rows, dispatcher_start, dispatcher_turn, done_end, end_from, ends, eq-eqb, eqb-true, first_done, has, has_room, idle, land, land_dispatcher, live_of, lt-ltb, mark, not-true, note_of, numbered, or_cases, or_left, or_right, out_of, parks, placed, retries, row_of, taken, takes, told, waits, with_room, without}
 pub use Rattle.dispatch_node.specs.declared.dispatcher.HeldPlaces.{HeldPlaces}
 pub use Rattle.list_words.proofs.Lists.{clash, each_append, has_push-false, has_push-left, has_push-or, has_push-right, has_without, has_without-false, has_without-self, has_without-true, option_both}

@@ -2,7 +2,7 @@
 use Rattle.std.specs.Prelude.{◌≡◌, ℕ, List, Option, Some, None}
 use Rattle.dispatch_node.specs.Terms.{DispatchCore, DispatcherKept, DispatcherLive, Fits, IsKept, Numbered, Setting, Stands, Step, changed, land, land_dispatcher, live_of, note_of}
 use Rattle.dispatch_node.specs.declared.dispatcher.HeldPlaces.{HeldPlaces}
-use Rattle.dispatch_node.specs.Places.{AreKeptPlaces, AreLivePlaces, IsLogOf}
+use Rattle.dispatch_core.specs.Places.{AreKeptPlaces, AreLivePlaces, IsLogOf}
 use Rattle.dispatch_node.specs.Follows.{Follows}
 
 -- it is a dispatcher of the setting over its log, whose records may be these

@@ -1,5 +1,4 @@
 pub mod Terms
-pub mod Places
 pub mod Follows
 pub mod Kept
 pub mod Dispatchers

@@ -5,7 +5,7 @@ ghost use Rattle.turn_defs.specs.declared.node.Input.TheVariants as asked;
 ghost use Rattle.dispatch_core.specs.Spelled.{IsTaken};
 ghost use Rattle.site_node.specs.States.{Fits};
 ghost use Rattle.dispatch_node.specs.Dispatchers.{Knows, known};
-ghost use Rattle.dispatch_node.specs.Places.{AreLivePlaces, IsLogOf};
+ghost use Rattle.dispatch_core.specs.Places.{AreLivePlaces, IsLogOf};
 
 use crate::clicks::Clicks;
 use crate::dispatcher::HeldPlaces;

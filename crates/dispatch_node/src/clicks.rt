@@ -1,7 +1,7 @@
 // The click log, of which a line is read where it is needed.
 ghost use Rattle.std.specs.Prelude.{◌≡◌, ◌++◌, ◌∷◌, [], ℕ, List, All, Some, true, IfOk, IfErr, IfSome, OnOk, IsTrue};
 ghost use Rattle.dispatch_node.specs.Terms.{AreClicksAt, IsLineAt, IsReadFault, Setting, click_at, has, is_read_fault, tallied, IsNext, IsClick, click_line, Click};
-ghost use Rattle.dispatch_node.specs.Places.{IsLogOf, IsReadable, StartsAt};
+ghost use Rattle.dispatch_core.specs.Places.{IsLogOf, IsReadable, StartsAt};
 
 use dispatch_core::TakenLine;
 use log_records::{ClickRec, Why, read_click};

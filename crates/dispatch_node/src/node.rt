@@ -2,7 +2,7 @@
 ghost use Rattle.std.specs.Prelude.{◌≡◌, ◌<◌, false, IfOk, IfErr};
 ghost use Rattle.dispatch_node.specs.Terms.{Ready, Setting, StandsAt, down_over};
 ghost use Rattle.dispatch_node.specs.Kept.{kept_as};
-ghost use Rattle.dispatch_node.specs.Places.{AreKeptPlaces, IsLogOf};
+ghost use Rattle.dispatch_core.specs.Places.{AreKeptPlaces, IsLogOf};
 
 use crate::clicks::Clicks;
 use crate::dispatcher::{Dispatcher, PlacesKept};

@@ -1,12 +1,11 @@
 -- A line whose id no stray line has is the first with it.
-use Rattle.std.proofs.Common.{◌≡◌, ℕ, ◌<◌, Bool, true, false, List, [], ◌∷◌, ◌++◌, Option, Some, None, is_some, refl, sym, ap, ◌∙◌, subst, arith}
-use Rattle.event_store.proofs.Words.{list_any, or_left, or_right, both_ways, none-some, EventId, is_same, QueryRec, Index, ReadsNext, AreRead, TellsId, found, strays, ids_onto, Mark, ids_of, stray_of, place_of, Knows}
+use Rattle.std.proofs.Common.{◌≡◌, ℕ, ◌<◌, Bool, true, false, List, [], ◌∷◌, Option, Some, None, is_some, refl, sym, ap, ◌∙◌, arith}
+use Rattle.event_store.proofs.Words.{list_any, or_left, or_right, both_ways, none-some, EventId, is_same, QueryRec, Index, ReadsNext, AreRead, found, strays, ids_onto, Mark, ids_of, stray_of, Knows}
 use Rattle.event_store.proofs.Orders.{above}
 use Rattle.event_store.proofs.Marking.{stray_any}
-use Rattle.event_store.proofs.Looking.{told_id}
-use Rattle.event_store.proofs.Walks.{next_same, line_at, walk_push}
+use Rattle.event_store.proofs.Walks.{next_same, line_at}
 use Rattle.event_store.proofs.Taking.{ids_append}
-use Rattle.event_store.proofs.Firsts.{place_is}
+use Rattle.event_store.proofs.Firsts.{found_beyond}
 
 -- what is kept of the ids as lines come
 onto_keeps : (P : List EventId → Type 0) → ((x : EventId) (ids : List EventId) → P ids → P (x ∷ ids)) → (ids : List EventId) (lines : List (Option QueryRec)) → P ids → P (ids_onto ids lines)
@@ -32,8 +31,8 @@ stays : (id x : EventId) (ids : List EventId) → list_any (is_same id) (strays 
 stays id x ids any = grind arith
 
 module _ (log : List ℕ) (place : ℕ) (index : Index) (lines : List (Option QueryRec)) (marks : List Mark) (knows : Knows log place index lines marks) where
-  pub first_here : (s next : ℕ) (front : List (Option QueryRec)) (q : QueryRec) → AreRead log s front → ReadsNext log s next (Some q) → s < place → stray_of marks q.id ≡ None → place_of marks q.id ≡ Some s
-  first_here s next front q walk step lt no_stray = place_is log place index lines marks knows q.id s (front, walk, none (found front q.id) refl, (next, q, step, refl)) lt
+  pub first_here : (s next : ℕ) (front : List (Option QueryRec)) (q : QueryRec) → AreRead log s front → ReadsNext log s next (Some q) → s < place → stray_of marks q.id ≡ None → found lines q.id ≡ Some q
+  first_here s next front q walk step lt no_stray = found_beyond log q.id s place lines (front, walk, none (found front q.id) refl, (next, q, step, refl)) knows.walk lt
     where
       none : (o : Option QueryRec) → found front q.id ≡ o → found front q.id ≡ None
       none None e = e
@@ -43,14 +42,3 @@ module _ (log : List ℕ) (place : ℕ) (index : Index) (lines : List (Option Qu
           let ids : ids_of marks ≡ ids_onto (q.id ∷ ids_onto [] front) at.3.0 = knows.ids ∙ ap (ids_onto []) at.3.1 ∙ ids_append [] front (at.1 ∷ at.3.0) ∙ ap (λ (r : Option QueryRec). ids_onto (ids_onto [] front) (r ∷ at.3.0)) (sym one.1) in
           let any = onto_keeps (λ (all : List EventId). list_any (is_same q.id) (strays all) ≡ true) (stays q.id) (q.id ∷ ids_onto [] front) at.3.0 (again (ids_onto [] front) q.id (found_id [] front q.id p e)) in
           absurd (both_ways (is_some (stray_of marks q.id)) (ap is_some no_stray) (sym (stray_any marks q.id) ∙ ap (λ (all : List EventId). list_any (is_same q.id) (strays all)) ids ∙ any))
-
-  -- what is known of a line that is read ahead
-  pub kept : (s new : ℕ) (front : List (Option QueryRec)) (told : Option EventId) → AreRead log s front → s < place → ((next : ℕ) (read : Option QueryRec) → ReadsNext log s next read → (new ≡ next) × TellsId [] read told) → ((now : List (Option QueryRec)) × AreRead log new now) × ((id : EventId) → told ≡ Some id → stray_of marks id ≡ None → place_of marks id ≡ Some s)
-  kept s new front told walk lt look =
-      let at = line_at log s place front lines walk knows.walk lt in
-      let one = look at.0 at.1 at.2 in (
-        (front ++ at.1 ∷ [], subst (λ (n : ℕ). AreRead log n (front ++ at.1 ∷ [])) (sym one.0) (walk_push log 0 s at.0 front at.1 walk at.2)),
-        λ id is none.
-            let own = told_id [] at.1 id (subst (TellsId [] at.1) is one.1) in
-            subst (λ (i : EventId). place_of marks i ≡ Some s) own.2 (first_here s at.0 front own.0 walk (subst (ReadsNext log s at.0) own.1 at.2) lt (subst (λ (i : EventId). stray_of marks i ≡ None) (sym own.2) none)),
-      )

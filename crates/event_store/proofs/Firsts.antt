@@ -1,5 +1,5 @@
 -- The first line with an id, by its place and by what an index says.
-use Rattle.std.proofs.Common.{◌≡◌, ℕ, ◌<◌, ◌≤◌, Bool, true, false, nat_lt, List, Option, Some, None, MatchOption, option_map, unwrap_or, refl, sym, ap, ◌∙◌, arith, ltb-true}
+use Rattle.std.proofs.Common.{◌≡◌, ℕ, ◌<◌, ◌≤◌, Bool, true, false, nat_lt, List, Option, Some, None, MatchOption, option_map, unwrap_or, refl, sym, ap, ◌∙◌, subst, arith, ltb-true}
 use Rattle.event_store.proofs.Words.{none-some, nat_tests, MatchOption-at_some, MatchOption-at_none, EventId, QueryRec, Index, AreRead, found, Mark, First, first_of, place_of, stray_of, Begins, IsStray, IsSegment, Starts, Knows, IsCache}
 use Rattle.event_store.proofs.Marking.{first_below, stray_first, no_stray}
 use Rattle.event_store.proofs.Walks.{walk_on, line_at, next_same, found_append}
@@ -38,9 +38,9 @@ module _ (log : List ℕ) (place : ℕ) (index : Index) (lines : List (Option Qu
   pub first_at : (s : ℕ) → place_of marks id ≡ Some s → Starts log id s × (s < place)
   first_at s is = grind (arith, first_below)
 
-  -- what is kept at hand by lines from there on
-  pub kept_ahead : (log' : List ℕ) (s : ℕ) (old new : EventId → Option ℕ) → place_of marks id ≡ Some s → log' ≡ log → ((front lines : List (Option QueryRec)) (marks : List Mark) → AreRead log' s front → Knows log' place index lines marks → IsCache old marks → IsCache new marks) → IsCache old marks → IsCache new marks
-  kept_ahead log' s old new is same more cache = grind arith
+  -- what is kept at hand of lines from there on
+  pub kept_ahead : (log' : List ℕ) (s : ℕ) (old new : List (EventId × QueryRec)) → place_of marks id ≡ Some s → log' ≡ log → ((front lines : List (Option QueryRec)) (marks : List Mark) → AreRead log' s front → Knows log' place index lines marks → IsCache old lines → IsCache new lines) → IsCache old lines → IsCache new lines
+  kept_ahead log' s old new is same more cache = let first = first_at s is in more first.0.0 lines marks (subst (λ (l : List ℕ). AreRead l s first.0.0) (sym same) first.0.1) (subst (λ (l : List ℕ). Knows l place index lines marks) (sym same) knows) cache
 
   pub nowhere : place_of marks id ≡ None → found lines id ≡ None
   nowhere is = grind arith

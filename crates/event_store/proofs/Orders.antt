@@ -1,6 +1,6 @@
 -- Ids in order, and ids that are one.
-use Rattle.std.proofs.Common.{◌≡◌, ℕ, ◌<◌, Bool, true, false, ◌||◌, ◌==◌, nat_lt, List, [], ◌∷◌, refl, arith, eq-eqb}
-use Rattle.event_store.proofs.Words.{list_any, and_from, both_ways, EventId, is_same, Process, Progress, same_process, is_in_order, same_key, key_of, progress}
+use Rattle.std.proofs.Common.{◌≡◌, ◌<◌, true, false, ◌==◌, List, [], ◌∷◌, refl, arith, eq-eqb}
+use Rattle.event_store.proofs.Words.{list_any, and_from, both_ways, EventId, is_same, Process, same_process, is_in_order, same_key, key_of, progress, admits}
 
 pub same_id : (a b : EventId) → is_same a b ≡ true → a ≡ b
 same_id a b e = grind arith
@@ -20,10 +20,6 @@ above [] a e order any same = absurd (both_ways false refl any)
 above (x ∷ ids) a e order any same = grind (arith, above ids a e)
 
 -- ---- the same by a process's progress
-
--- whether a line with these micros is in order behind them
-abbrev pub admits : Progress → ℕ → Bool
-admits g m = (g.lines == 0) || nat_lt g.last m
 
 pub admitted : (ids : List EventId) (id : EventId) → is_in_order ids id ≡ admits (progress ids (key_of id)) id.micros
 admitted [] id = refl

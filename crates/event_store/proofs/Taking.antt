@@ -1,8 +1,8 @@
 -- What is known after one line more.
 use Rattle.std.proofs.Common.{◌≡◌, ℕ, ◌+◌, ◌<◌, Bool, true, false, cond, List, [], ◌∷◌, ◌++◌, Option, Some, None, MatchOption, refl, sym, ap, ◌∙◌, arith, length-append}
-use Rattle.event_store.proofs.Words.{option_or, EventId, is_same, QueryRec, Index, ReadsNext, AreRead, found, ids_onto, Mark, First, Keeps, as_first, first_of, place_of, ids_of, Falls, Starts, IsCache, Holds}
+use Rattle.event_store.proofs.Words.{option_or, EventId, is_same, QueryRec, Index, ReadsNext, AreRead, found, ids_onto, Mark, First, Keeps, as_first, first_of, ids_of, Falls, Starts, IsCache, Holds}
 use Rattle.event_store.proofs.Orders.{same_id, same_itself}
-use Rattle.event_store.proofs.Walks.{next_beyond, walk_push, found_new}
+use Rattle.event_store.proofs.Walks.{next_beyond, walk_push, found_append, found_new}
 
 -- the line among those with a record
 abbrev pub with_line : ℕ → Option QueryRec → List Mark → List Mark
@@ -24,8 +24,8 @@ ids_append earlier (Some q ∷ lines) more = ids_append (q.id ∷ earlier) lines
 ids_with : (place : ℕ) (r : Option QueryRec) (marks : List Mark) → ids_of (with_line place r marks) ≡ ids_onto (ids_of marks) (r ∷ [])
 ids_with place r marks = grind arith
 
-pub cached_more : (kept : EventId → Option ℕ) (marks : List Mark) (place : ℕ) (r : Option QueryRec) → IsCache kept marks → IsCache kept (with_line place r marks)
-cached_more kept marks place r cache = grind arith
+pub cached_more : (kept : List (EventId × QueryRec)) (lines : List (Option QueryRec)) (r : Option QueryRec) → IsCache kept lines → IsCache kept (lines ++ r ∷ [])
+cached_more kept lines r cache = λ e has. found_append lines (r ∷ []) e.0 ∙ ap (λ (o : Option QueryRec). option_or o (found (r ∷ []) e.0)) (cache e has)
 
 abbrev Tied : List ℕ → List (Option QueryRec) → List Mark → EventId → Type 0
 Tied log lines marks id = MatchOption (first_of marks id) (found lines id ≡ None) (λ (f : First). Starts log id f.place)
@@ -40,7 +40,7 @@ tied_with log place e (Some q) lines marks walk step id tied = here (first_of ma
     here None false is none = rw is (found_new lines (Some q) id none ∙ (rw is refl))
 
 -- one line more, with what is then kept of it
-pub grown : (log : List ℕ) (place e count : ℕ) (r : Option QueryRec) (index after : Index) (kept now : EventId → Option ℕ) → (h : Holds log place count index kept) → ReadsNext log place e r → Keeps after (with_line place r h.marks) → IsCache now (with_line place r h.marks) → Holds log e (count + 1) after now
+pub grown : (log : List ℕ) (place e count : ℕ) (r : Option QueryRec) (index after : Index) (kept now : List (EventId × QueryRec)) → (h : Holds log place count index kept) → ReadsNext log place e r → Keeps after (with_line place r h.marks) → IsCache now (h.lines ++ r ∷ []) → Holds log e (count + 1) after now
 grown log place e count r index after kept now h step keeps cache = record {
   lines = h.lines ++ r ∷ [];
   marks = with_line place r h.marks;
@@ -56,5 +56,5 @@ grown log place e count r index after kept now h step keeps cache = record {
 }
 
 -- a new id's line is the first of it
-pub first_now : (place : ℕ) (q : QueryRec) (marks : List Mark) → first_of marks q.id ≡ None → place_of (record { place = place; id = q.id } ∷ marks) q.id ≡ Some place
-first_now place q marks none = rw (none, same_itself q.id) refl
+pub first_now : (lines : List (Option QueryRec)) (q : QueryRec) → found lines q.id ≡ None → found (lines ++ Some q ∷ []) q.id ≡ Some q
+first_now lines q none = found_new lines (Some q) q.id none ∙ rw (same_itself q.id) refl

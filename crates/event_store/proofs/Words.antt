@@ -3,8 +3,8 @@ pub use Rattle.event_id.proofs.Spelling.{length-spell-le}
 pub use Rattle.event_id.specs.EventId.{id_cmp, is_same, spell}
 pub use Rattle.event_id.specs.declared.id.EventId.{EventId, EventId as Id}
 pub use Rattle.event_store.specs.Found.{found, records}
-pub use Rattle.event_store.specs.Held.{Holds, IsCache, Knows, Starts, at_hand}
-pub use Rattle.event_store.specs.Marks.{Begins, Falls, First, IsSegment, IsStray, Keeps, Mark, as_first, begins, entry_of, first_of, ids_of, key_cmp, key_of, place_of, progress, progress_at, same_key, stray_of}
+pub use Rattle.event_store.specs.Held.{Holds, IsCache, Knows, Starts}
+pub use Rattle.event_store.specs.Marks.{Begins, Falls, First, IsSegment, IsStray, Keeps, HasCounted, HasStayed, Mark, admits, as_first, begins, entry_of, first_of, ids_of, key_cmp, key_of, place_of, progress, progress_at, same_key, stray_of}
 pub use Rattle.event_store.specs.Order.{distinct, entries_among, entries_of, ids_onto, in_order, is_in_order, run_length, same_process, strays}
 pub use Rattle.event_store.specs.Read.{AreRead, IsAtEnd, ReadsAs, ReadsLines, ReadsNext, TellsId}
 pub use Rattle.event_store.specs.StoreRows.{small_log}

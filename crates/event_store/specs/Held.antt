@@ -1,17 +1,12 @@
 -- What a store knows of the lines that it has read.
-use Rattle.std.specs.Prelude.{ℕ, ◌≡◌, List, [], length, Option, Some, None, MatchOption, IfSome}
-use Rattle.std.specs.Option.{option_or}
-use Rattle.std.specs.BTreeMap.{get, is_at}
-use Rattle.std.specs.Map.{lookup}
+use Rattle.std.specs.Prelude.{ℕ, ◌≡◌, List, [], length, Option, Some, None, MatchOption, Contains}
 use Rattle.event_id.specs.declared.id.EventId.{EventId}
-use Rattle.event_id.specs.EventId.{id_cmp}
 use Rattle.log_records.specs.declared.records.QueryRec.{QueryRec}
 use Rattle.event_store.specs.declared.index.Index.{Index}
-use Rattle.event_store.specs.declared.recent.Recent.{Recent}
 use Rattle.event_store.specs.Read.{ReadsNext, ReadsLines, AreRead}
 use Rattle.event_store.specs.Found.{found}
 use Rattle.event_store.specs.Order.{ids_onto}
-use Rattle.event_store.specs.Marks.{Mark, Keeps, first_of, place_of, ids_of, Falls}
+use Rattle.event_store.specs.Marks.{Mark, Keeps, first_of, ids_of, Falls}
 
 -- the first line with the id begins at the place
 abbrev pub Starts : List ℕ → EventId → ℕ → Type 0
@@ -25,17 +20,13 @@ pub record Knows (log : List ℕ) (place : ℕ) (index : Index) (lines : List (O
   pub ids : ids_of marks ≡ ids_onto [] lines
   pub keeps : Keeps index marks
 
--- the place that is at hand for an id
-abbrev pub at_hand : Recent → EventId → Option ℕ
-at_hand recent id = option_or (get id_cmp recent.newer id) (lookup (is_at (id_cmp id)) recent.older.items)
+-- each record at hand is the one that the lines have first with its id
+abbrev pub IsCache : List (EventId × QueryRec) → List (Option QueryRec) → Type 0
+IsCache kept lines = (e : EventId × QueryRec) → Contains kept e → found lines e.0 ≡ Some e.1
 
--- each place at hand is that of the first line with the id
-abbrev pub IsCache : (EventId → Option ℕ) → List Mark → Type 0
-IsCache kept marks = (id : EventId) → IfSome (kept id) (λ s. place_of marks id ≡ Some s)
-
-pub record Holds (log : List ℕ) (place count : ℕ) (index : Index) (kept : EventId → Option ℕ) : Type 0 where
+pub record Holds (log : List ℕ) (place count : ℕ) (index : Index) (kept : List (EventId × QueryRec)) : Type 0 where
   pub lines : List (Option QueryRec)
   pub marks : List Mark
   pub knows : Knows log place index lines marks
   pub counts : count ≡ length lines
-  pub cached : IsCache kept marks
+  pub cached : IsCache kept lines

@@ -1,5 +1,5 @@
 -- What an index knows of the lines with a record. In each list the last line comes first.
-use Rattle.std.specs.Prelude.{ℕ, ◌≡◌, ◌+◌, ◌%◌, ◌<◌, ◌≤◌, ◌==◌, ◌&&◌, not, Bool, true, false, List, [], ◌∷◌, if◌then◌else◌, Option, Some, None, IfSome, option_map, unwrap_or}
+use Rattle.std.specs.Prelude.{ℕ, ◌≡◌, ◌+◌, ◌%◌, ◌<◌, ◌≤◌, ◌==◌, ◌&&◌, ◌||◌, nat_lt, not, Bool, true, false, List, [], ◌∷◌, if◌then◌else◌, Option, Some, None, IfSome, IsSome, option_map, unwrap_or}
 use Rattle.std.specs.Option.{option_or}
 use Rattle.std.specs.Ordering.{nat_cmp, ordering_then}
 use Rattle.std.specs.declared.cmp.Ordering.{Ordering}
@@ -53,6 +53,21 @@ stray_of (m ∷ earlier) k = option_or (stray_of earlier k) (if is_same k m.id &
 -- how far a process has come
 abbrev pub progress_at : tree.BTreeMap Process Progress → Process → Progress
 progress_at processes p = unwrap_or (tree.get key_cmp processes p) (record { lines = 0; last = 0 })
+
+-- whether a line with these micros would be in order behind them
+abbrev pub admits : Progress → ℕ → Bool
+admits g m = (g.lines == 0) || nat_lt g.last m
+
+-- each process is as far as it was
+abbrev pub HasStayed : tree.BTreeMap Process Progress → tree.BTreeMap Process Progress → Type 0
+HasStayed old new = (p : Process) → progress_at new p ≡ progress_at old p
+
+-- a process that had come so far has one line more, which is in order
+pub record HasCounted (old new : tree.BTreeMap Process Progress) (process : Process) (micros : ℕ) (was : Progress) : Type 0 where
+  pub before : was ≡ progress_at old process
+  pub order : admits was micros ≡ true
+  pub room : IsSome (tree.get key_cmp new process)
+  pub moved : (p : Process) → progress_at new p ≡ (if same_key p process then record { lines = was.lines + 1; last = micros } else progress_at old p)
 
 -- the index of these lines
 pub record Keeps (index : Index) (marks : List Mark) : Type 0 where

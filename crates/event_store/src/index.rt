@@ -1,8 +1,8 @@
 // A sparse index of the lines with a record, which knows no log.
-ghost use Rattle.std.specs.Prelude.{◌≡◌, ◌≤◌, ◌<◌, ◌≢◌, ◌+◌, ◌∷◌, [], ℕ, List, true, false, IsTrue, Option, Some, None, IfSome, IfNone, OnOk, OnErr};
+ghost use Rattle.std.specs.Prelude.{◌≡◌, ◌≤◌, ◌<◌, ◌≢◌, ◌+◌, ◌∷◌, [], ℕ, List, true, false, IsTrue, Option, Some, None, IfSome, IfNone, IfOk, OnOk, OnErr};
 ghost use Rattle.event_id.specs.declared.id.EventId.{EventId as Id};
 
-use crate::puts::{make_room, put_entry, put_progress, put_stray};
+use crate::puts::{count, put_back, put_entry, put_stray};
 use event_id::EventId;
 use std::alloc::{AllocError, Global};
 use std::collections::BTreeMap;
@@ -56,13 +56,31 @@ impl Process {
 }
 
 impl Progress {
-    ghost use Rattle.std.specs.Prelude.{◌||◌, ◌==◌, nat_lt};
+    ghost use Rattle.event_store.specs.Marks.{admits};
 
-    // Whether a line with these micros would be in order.
-    fn admits(self, micros: u64) -> bool
-        ensures { result ≡ ((self.lines == 0) || nat_lt self.last micros) }
+    /// Whether a line with these micros would be in order.
+    pub(crate) fn admits(self, micros: u64) -> bool
+        ensures { result ≡ admits self micros }
     {
         self.lines == 0 || self.last < micros
+    }
+
+    // One line more, if it is in order; and what was before it.
+    pub(crate) fn step(&mut self, micros: u64) -> Result<Option<Progress>, AllocError>
+        ensures counted { IfOk result (λ o. IfSome o (λ was. (was ≡ self.old) × (admits self.old micros ≡ true) × (self.new ≡ record { lines = self.old.lines + 1; last = micros }))) }
+        ensures stray { IfOk result (λ o. IfNone o ((admits self.old micros ≡ false) × (self.new ≡ self.old))) }
+        ensures err { OnErr result (self.new ≡ self.old) }
+    {
+        if !self.admits(micros) {
+            return Ok(None);
+        }
+        let was = *self;
+        let lines = was.lines.checked_add(1).ok_or(AllocError)?;
+        *self = Progress {
+            lines,
+            last: micros,
+        };
+        Ok(Some(was))
     }
 }
 
@@ -94,7 +112,7 @@ impl Index {
     }
 
     /// Whether a line with the id would be in order; then no line has the id. Logarithmic time.
-    #[tactic(auto, using(crate::proofs::Orders::admits, crate::proofs::Orders::admitted, crate::proofs::Marking::no_first))]
+    #[tactic(auto, using(crate::proofs::Orders::admitted, crate::proofs::Marking::no_first))]
     pub(crate) fn is_next(&self, id: EventId) -> bool
         ensures order { (marks : List Seen) → Keeps self.now marks → result ≡ is_in_order (ids_of marks) id }
         ensures none { (marks : List Seen) → Keeps self.now marks → IsTrue result → first_of marks id ≡ None }
@@ -148,44 +166,27 @@ impl Index {
         self.strays.get(&id).copied()
     }
 
-    /// One line with a record more. Logarithmic time.
-    pub(crate) fn see(&mut self, id: EventId, place: u64) -> Result<(), AllocError>
+    /// One line with a record more, and whether it is in order; then it is the first with its id. Logarithmic time: the process
+    /// is looked for once.
+    ///
+    /// Where there is no memory for its entry the process goes back to where it was, which takes none.
+    #[tactic(auto, using(crate::proofs::Orders::admitted, crate::proofs::Marking::no_first))]
+    pub(crate) fn see(&mut self, id: EventId, place: u64) -> Result<bool, AllocError>
         ensures ok { OnOk result ((marks : List Seen) → Keeps self.old marks → Keeps self.new (record { place = place; id = id } ∷ marks)) }
-        ensures err { OnErr result ((marks : List Seen) → Keeps self.old marks → Keeps self.new marks) }
-    {
-        if self.is_next(id) {
-            self.see_ordered(id, place)
-        } else {
-            self.see_stray(id, place)
-        }
-    }
-
-    // The map is changed last, by a call that takes no memory.
-    fn see_ordered(&mut self, id: EventId, place: u64) -> Result<(), AllocError>
-        ensures ok { OnOk result ((marks : List Seen) → Keeps self.old marks → is_in_order (ids_of marks) id ≡ true → Keeps self.new (record { place = place; id = id } ∷ marks)) }
+        ensures first { IfOk result (λ ordered. (marks : List Seen) → Keeps self.old marks → IsTrue ordered → first_of marks id ≡ None) }
         ensures err { OnErr result ((marks : List Seen) → Keeps self.old marks → Keeps self.new marks) }
     {
         let process = Process::of(id);
-        make_room(&mut self.processes, process)?;
-        let progress = self.progress(process);
-        let lines = progress.lines.checked_add(1).ok_or(AllocError)?;
-        put_entry(&mut self.entries, progress.lines % STRIDE == 0, id, place)?;
-        put_progress(
-            &mut self.processes,
-            process,
-            Progress {
-                lines,
-                last: id.micros,
-            },
-        );
-        Ok(())
-    }
-
-    fn see_stray(&mut self, id: EventId, place: u64) -> Result<(), AllocError>
-        ensures ok { OnOk result ((marks : List Seen) → Keeps self.old marks → is_in_order (ids_of marks) id ≡ false → Keeps self.new (record { place = place; id = id } ∷ marks)) }
-        ensures err { OnErr result ((marks : List Seen) → Keeps self.old marks → Keeps self.new marks) }
-    {
-        put_stray(&mut self.strays, id, place)
+        let Some(was) = count(&mut self.processes, process, id.micros)? else {
+            put_stray(&mut self.strays, id, place)?;
+            return Ok(false);
+        };
+        let begins = was.lines % STRIDE == 0;
+        if put_entry(&mut self.entries, begins, id, place).is_err() {
+            put_back(&mut self.processes, process, was);
+            return Err(AllocError);
+        }
+        Ok(true)
     }
 
     /// How many entries it has.

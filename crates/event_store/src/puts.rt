@@ -1,33 +1,42 @@
 // Changes of an index's maps.
-ghost use Rattle.std.specs.Prelude.{◌≡◌, ◌+◌, Option, Some, None, is_some, IsSome, OnOk, OnErr, if◌then◌else◌, ◌&&◌};
+ghost use Rattle.std.specs.Prelude.{◌≡◌, ◌+◌, Option, Some, None, false, is_some, IsSome, IfOk, IfSome, IfNone, OnOk, OnErr, if◌then◌else◌, ◌&&◌};
 ghost use Rattle.std.specs.Option.{option_or};
 ghost use Rattle.std.specs.BTreeMap as tree;
 ghost use Rattle.event_id.specs.declared.id.EventId.{EventId as Id};
 ghost use Rattle.event_id.specs.EventId.{is_same, id_cmp};
 ghost use Rattle.event_store.specs.declared.index.Process.{Process as Key};
-ghost use Rattle.event_store.specs.Marks.{progress_at, same_key, key_cmp};
+ghost use Rattle.event_store.specs.Marks.{progress_at, same_key, key_cmp, admits, HasCounted, HasStayed};
 
 use crate::index::{Process, Progress};
 use event_id::EventId;
 use std::alloc::AllocError;
 use std::collections::BTreeMap;
 
-// Gives the process its place in the map. How far each has come stays.
-pub(crate) fn make_room(
+// One line more of the process, if one with these micros would be in order; and how far the process had come.
+pub(crate) fn count(
     processes: &mut BTreeMap<Process, Progress>,
     process: Process,
-) -> Result<(), AllocError>
-    ensures room { OnOk result (IsSome (tree.get key_cmp processes.new process)) }
-    ensures same { (p : Key) → progress_at processes.new p ≡ progress_at processes.old p }
+    micros: u64,
+) -> Result<Option<Progress>, AllocError>
+    ensures counted { IfOk result (λ o. IfSome o (λ was. HasCounted processes.old processes.new process micros was)) }
+    ensures stray { IfOk result (λ o. IfNone o ((admits (progress_at processes.old process) micros ≡ false) × HasStayed processes.old processes.new)) }
+    ensures err { OnErr result (HasStayed processes.old processes.new) }
 {
-    if !processes.contains_key(&process) {
-        processes.insert(process, Progress { lines: 0, last: 0 })?;
+    if let Some(progress) = processes.get_mut(&process) {
+        return progress.step(micros);
     }
-    Ok(())
+    processes.insert(
+        process,
+        Progress {
+            lines: 1,
+            last: micros,
+        },
+    )?;
+    Ok(Some(Progress { lines: 0, last: 0 }))
 }
 
 // Takes no memory, since the process has its place.
-pub(crate) fn put_progress(
+pub(crate) fn put_back(
     processes: &mut BTreeMap<Process, Progress>,
     process: Process,
     progress: Progress,

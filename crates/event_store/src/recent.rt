@@ -1,99 +1,120 @@
-// The places at hand.
-ghost use Rattle.std.specs.Prelude.{◌≡◌, List, Some, None, IfSome, IsTrue};
-ghost use Rattle.std.specs.BTreeMap.{get, is_at};
-ghost use Rattle.std.specs.Map.{lookup, keys_of};
-ghost use Rattle.std.specs.List.Sorted.{IsStrictlySortedBy};
-ghost use Rattle.std.proofs.lemmas.Map.Keys.{IsStrictlySortedBy-prop};
-ghost use Rattle.event_id.specs.declared.id.EventId.{EventId as Id};
-ghost use Rattle.event_id.specs.EventId.{id_cmp};
+// The records at hand.
+ghost use Rattle.std.specs.Prelude.{◌≡◌, ◌≤◌, [], List, Option, Some, IfOk, IfErr, IfSome, IsTrue};
+ghost use Rattle.log_records.specs.declared.records.QueryRec.{QueryRec as Query};
+ghost use Rattle.log_records.specs.Line.{IsQuery};
+ghost use Rattle.event_store.specs.declared.store.LookFault.TheVariants as fault;
+ghost use Rattle.event_store.specs.Found.{found};
+ghost use Rattle.event_store.specs.Held.{IsCache};
 
+use crate::LookFault;
 use event_id::EventId;
-use std::alloc::Global;
-use std::collections::BTreeMap;
+use log_records::QueryRec;
+use lru::LruCache;
+use std::alloc::{AllocError, Global};
+use std::hash::RandomState;
+use std::marker::Model;
+use std::num::NonZeroUsize;
 
-/// Places of lines by their ids, in two generations.
-///
-/// A place goes to the younger one. Once that has half of the most, it takes the place of the older one, which goes. So
-/// those that were put last are at hand, at least half of the most of them. The older one never changes, and is a list in the
-/// order of the ids, which takes half of the memory of a map.
+// A look-up by the index is behind the one before it where its line begins so few bytes from where that one stopped reading.
+const NEAR: u64 = 1_024;
+
+/// A record that has a line, seen as the record.
 #[derive(Drop)]
-pub(crate) struct Recent {
-    newer: BTreeMap<EventId, u64>,
-    older: Vec<(EventId, u64)>,
-    half: usize,
-    ghost rises: { IsStrictlySortedBy id_cmp (keys_of older.items) } by { IsStrictlySortedBy-prop id_cmp (keys_of older.items) },
+pub struct Kept {
+    query: QueryRec,
+}
+
+impl Model for Kept {
+    ghost Value = { Query };
+
+    ghost view = { λ k. k.query };
+
+    ghost invariant = { λ k. IsQuery k.query };
+}
+
+impl Kept {
+    fn new(query: QueryRec) -> Kept
+        requires { IsQuery query }
+        ensures { result ≡ query }
+    {
+        Kept { query }
+    }
+
+    // The record once more. No byte of its text is copied.
+    fn share(&self) -> Result<QueryRec, LookFault>
+        ensures same { IfOk result (λ query. query ≡ self.now) }
+        ensures spelled { IfOk result IsQuery }
+        ensures memory { IfErr result (λ e. e ≡ fault.Memory) }
+    {
+        match self.query.share() {
+            Ok(query) => Ok(query),
+            Err(_) => Err(LookFault::Memory),
+        }
+    }
+}
+
+/// Records by their ids, the last used of them, and where look-ups by the index stand.
+#[derive(Drop)]
+pub struct Recent {
+    records: LruCache<EventId, Kept, RandomState>,
+    reached: u64,
 }
 
 impl Recent {
-    ghost use Rattle.event_store.specs.Marks.{Mark as Seen, place_of};
-    ghost use Rattle.event_store.specs.Held.{IsCache, at_hand};
-
-    /// None, and this is the most. It takes no memory.
-    pub(crate) fn new(alloc: Global, most: u32) -> Recent
-        ensures { (id : Id) → at_hand result id ≡ None }
+    /// None, and this is the most.
+    pub(crate) fn new(alloc: Global, keys: RandomState, most: u32) -> Result<Recent, AllocError>
+        requires { 1 ≤ most }
+        ensures none { IfOk result (λ recent. recent.records.entries ≡ []) }
+        ensures most { IfOk result (λ recent. recent.records.cap ≡ most) }
     {
-        Recent {
-            newer: BTreeMap::new(alloc),
-            older: Vec::new(alloc),
-            half: most as usize / 2,
-        }
+        let Some(most) = NonZeroUsize::new(most as usize) else {
+            unreachable!()
+        };
+        let records = LruCache::with_hasher(alloc, most, keys)?;
+        Ok(Recent {
+            records,
+            reached: 0,
+        })
     }
 
-    /// Keeps the place at hand if the first line with the id begins there; where there is no memory for it, it isn't kept.
+    /// Keeps the record at hand if it is the first with its id; where there is no memory for it, it isn't kept.
     ///
-    /// Logarithmic time, but for each half of the most once the time to drop so many.
-    pub(crate) fn remember(&mut self, is_first: bool, id: EventId, place: u64)
-        ensures { (marks : List Seen) → IsCache (at_hand self.old) marks → (IsTrue is_first → place_of marks id ≡ Some place) → IsCache (at_hand self.new) marks }
+    /// Constant expected time. The record that was used least lately goes where there are as many as may be.
+    pub(crate) fn remember(&mut self, is_first: bool, query: QueryRec)
+        requires { IsQuery query }
+        ensures kept { (lines : List (Option Query)) → IsCache self.old.records.entries lines → (IsTrue is_first → found lines query.id ≡ Some query) → IsCache self.new.records.entries lines }
+        ensures most { self.new.records.cap ≡ self.old.records.cap }
     {
         if is_first {
-            self.make_place();
-            let _ = self.newer.insert(id, place);
+            let _ = self.records.put(query.id, Kept::new(query));
         }
     }
 
-    // Has the younger take the place of the older, if they are half of the most.
-    fn make_place(&mut self)
-        ensures { (marks : List Seen) → IsCache (at_hand self.old) marks → IsCache (at_hand self.new) marks }
+    /// The record at hand that has the id, which becomes the last used. Constant expected time.
+    pub(crate) fn recall(&mut self, id: EventId) -> Result<Option<QueryRec>, LookFault>
+        ensures kept { (lines : List (Option Query)) → IsCache self.old.records.entries lines → IsCache self.new.records.entries lines }
+        ensures hit { (lines : List (Option Query)) → IsCache self.old.records.entries lines → IfOk result (λ hit. IfSome hit (λ q. found lines id ≡ Some q)) }
+        ensures spelled { IfOk result (λ hit. IfSome hit IsQuery) }
+        ensures memory { IfErr result (λ e. e ≡ fault.Memory) }
+        ensures most { self.new.records.cap ≡ self.old.records.cap }
     {
-        if self.newer.len() >= self.half {
-            list(&self.newer, &mut self.older);
-            self.newer.clear();
-        }
+        let query = match self.records.peek(&id) {
+            Some(kept) => kept.share()?,
+            None => return Ok(None),
+        };
+        let _ = self.records.promote(&id);
+        Ok(Some(query))
     }
 
-    /// Where the first line with the id begins, if that is at hand. Logarithmic time.
-    pub(crate) fn recall(&self, id: EventId) -> Option<u64>
-        ensures { result ≡ at_hand self.now id }
+    /// Whether a look-up by the index that found its line at the place is behind the one before it.
+    pub(crate) fn is_behind(&self, place: u64) -> bool {
+        self.reached.abs_diff(place) <= NEAR
+    }
+
+    /// A look-up by the index stopped reading at the place.
+    pub(crate) fn reach(&mut self, place: u64)
+        ensures { self.new.records ≡ self.old.records }
     {
-        match self.newer.get(&id) {
-            Some(place) => Some(*place),
-            None => listed(&self.older, id),
-        }
-    }
-}
-
-// Puts the map's entries into the list, in their order and in place of its own; none where there is no memory for them.
-#[tactic(auto, using(crate::proofs::Recents::none_rises))]
-fn list(map: &BTreeMap<EventId, u64>, places: &mut Vec<(EventId, u64)>)
-    ensures rises { IsStrictlySortedBy id_cmp (keys_of places.new.items) }
-    ensures kept { (id : Id) → IfSome (lookup (is_at (id_cmp id)) places.new.items) (λ s. get id_cmp map.now id ≡ Some s) }
-{
-    places.clear();
-    if places.reserve_exact(map.len()).is_err() {
-        return;
-    }
-    for (id, place) in map {
-        places.push_reserved((*id, *place));
-    }
-}
-
-// The place of the id in a list in the order of the ids. Logarithmic time.
-fn listed(places: &[(EventId, u64)], id: EventId) -> Option<u64>
-    requires { IsStrictlySortedBy id_cmp (keys_of places.now) }
-    ensures { result ≡ lookup (is_at (id_cmp id)) places.now }
-{
-    match places.binary_search_by_key(&id, |place| place.0) {
-        Ok(at) => Some(places[at].1),
-        Err(_) => None,
+        self.reached = place;
     }
 }

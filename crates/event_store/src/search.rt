@@ -1,4 +1,4 @@
-// Looks for an id by the places at hand and by the index.
+// Looks for an id among the records at hand and by the index.
 ghost use Rattle.std.specs.Prelude.{◌≡◌, List, ℕ, Option, Some, MatchOption, IfOk, IfSome, IsTrue};
 ghost use Rattle.outside.specs.Faults.{tallied};
 ghost use Rattle.log_records.specs.declared.records.QueryRec.{QueryRec as Query};
@@ -6,11 +6,11 @@ ghost use Rattle.log_records.specs.Line.{IsQuery};
 ghost use Rattle.event_store.specs.Found.{found};
 ghost use Rattle.event_store.specs.Read.{ReadsNext, AreRead, is_read_fault};
 ghost use Rattle.event_store.specs.Marks.{Mark as Seen, place_of, IsStray};
-ghost use Rattle.event_store.specs.Held.{Knows, IsCache, at_hand};
+ghost use Rattle.event_store.specs.Held.{Knows, IsCache};
 
 use crate::LookFault;
 use crate::index::Index;
-use crate::read::{next_id, next_record};
+use crate::read::next_record;
 use crate::recent::Recent;
 use crate::scan::scan;
 use event_id::EventId;
@@ -19,7 +19,7 @@ use outside::LogFile;
 use std::alloc::Global;
 use tail_reader::Tail;
 
-// Of how many lines from the one that was found by the index the places are kept at hand.
+// Of how many lines from one that was found by the index the records are kept at hand, where the line found before is near.
 const AHEAD: u32 = 32;
 
 /// The first record with the id among the lines that end at or before the place. The tail stands anywhere afterwards.
@@ -32,20 +32,40 @@ pub(crate) fn look<L: LogFile>(
     place: u64,
     id: EventId,
 ) -> Result<Option<QueryRec>, LookFault>
-    ensures found { IsTrue L.tells → (lines : List (Option Query)) (marks : List Seen) → Knows (L.bytes tail.old.log) place index.now lines marks → IsCache (at_hand recent.old) marks → IfOk result (λ q. q ≡ found lines id) }
-    ensures cached { IsTrue L.tells → (lines : List (Option Query)) (marks : List Seen) → Knows (L.bytes tail.old.log) place index.now lines marks → IsCache (at_hand recent.old) marks → IsCache (at_hand recent.new) marks }
+    ensures found { IsTrue L.tells → (lines : List (Option Query)) (marks : List Seen) → Knows (L.bytes tail.old.log) place index.now lines marks → IsCache recent.old.records.entries lines → IfOk result (λ q. q ≡ found lines id) }
+    ensures cached { IsTrue L.tells → (lines : List (Option Query)) (marks : List Seen) → Knows (L.bytes tail.old.log) place index.now lines marks → IsCache recent.old.records.entries lines → IsCache recent.new.records.entries lines }
+    ensures most { recent.new.records.cap ≡ recent.old.records.cap }
     ensures spelled { IfOk result (λ q. IfSome q IsQuery) }
     ensures same { IsTrue L.tells → L.bytes tail.new.log ≡ L.bytes tail.old.log }
     ensures tally { L.faults tail.new.log ≡ tallied (L.faults tail.old.log) (is_read_fault result) }
 {
-    if let Some(start) = recent.recall(id) {
-        return record_at(alloc, tail, start);
+    if let Some(query) = recent.recall(id)? {
+        return Ok(Some(query));
     }
     let Some(start) = find(tail, index, place, id)? else {
         return Ok(None);
     };
-    read_ahead(tail, index, recent, start, place)?;
-    record_at(alloc, tail, start)
+    let found = record_at(alloc, tail, start)?;
+    if recent.is_behind(start) {
+        read_ahead(alloc, tail, index, recent, start, place)?;
+    } else {
+        hold(recent, &found);
+    }
+    recent.reach(tail.place());
+    Ok(found)
+}
+
+// Keeps the record at hand, which is the first with its id.
+fn hold(recent: &mut Recent, read: &Option<QueryRec>)
+    requires { IfSome read.now IsQuery }
+    ensures kept { (lines : List (Option Query)) → IsCache recent.old.records.entries lines → IfSome read.now (λ q. found lines q.id ≡ Some q) → IsCache recent.new.records.entries lines }
+    ensures most { recent.new.records.cap ≡ recent.old.records.cap }
+{
+    if let Some(query) = read {
+        if let Ok(shared) = query.share() {
+            recent.remember(true, shared);
+        }
+    }
 }
 
 // The record of the line that begins at the place. The tail stands anywhere afterwards.
@@ -102,17 +122,19 @@ fn in_order<L: LogFile>(
     scan(tail, segment.start, segment.end.unwrap_or(place), id)
 }
 
-// Keeps the places of the lines from the start on at hand, of those before the end and of no more than `AHEAD`. A line whose id
-// a stray has may not be the first with it.
+// Keeps the records of the lines from the start on at hand, of those before the end and of no more than `AHEAD`. A record whose
+// id a stray has may not be the first with it.
 fn read_ahead<L: LogFile>(
+    alloc: Global,
     tail: &mut Tail<L>,
     index: &Index,
     recent: &mut Recent,
     start: u64,
     end: u64,
 ) -> Result<(), LookFault>
-    ensures cached { IsTrue L.tells → (front lines : List (Option Query)) (marks : List Seen) → AreRead (L.bytes tail.old.log) start front → Knows (L.bytes tail.old.log) end index.now lines marks → IsCache (at_hand recent.old) marks → IsCache (at_hand recent.new) marks }
+    ensures cached { IsTrue L.tells → (front lines : List (Option Query)) (marks : List Seen) → AreRead (L.bytes tail.old.log) start front → Knows (L.bytes tail.old.log) end index.now lines marks → IsCache recent.old.records.entries lines → IsCache recent.new.records.entries lines }
     ensures same { IsTrue L.tells → L.bytes tail.new.log ≡ L.bytes tail.old.log }
+    ensures most { recent.new.records.cap ≡ recent.old.records.cap }
     ensures tally { L.faults tail.new.log ≡ tallied (L.faults tail.old.log) (is_read_fault result) }
 {
     tail.seek(start);
@@ -121,8 +143,11 @@ fn read_ahead<L: LogFile>(
         if place >= end {
             return Ok(());
         }
-        if let Some(id) = next_id(tail, b"")? {
-            recent.remember(index.stray(id).is_none(), id, place);
+        let Some(read) = next_record(alloc, tail)? else {
+            return Ok(());
+        };
+        if let Some(query) = read {
+            recent.remember(index.stray(query.id).is_none(), query);
         }
     }
     Ok(())

@@ -1,6 +1,6 @@
-// The store, which keeps a sparse index of the lines that it has read, and the places of some.
+// The store, which keeps a sparse index of the lines that it has read, and a few records.
 ghost use Rattle.std.specs.Prelude.{◌<◌, ◌^◌, IsTrue};
-ghost use Rattle.event_store.specs.Held.{Holds, at_hand};
+ghost use Rattle.event_store.specs.Held.{Holds};
 
 use crate::index::Index;
 use crate::read::next_record;
@@ -11,6 +11,7 @@ use event_id::EventId;
 use log_records::QueryRec;
 use outside::LogFile;
 use std::alloc::{AllocError, Global};
+use std::hash::RandomState;
 use tail_reader::Tail;
 
 /// What `advance` came to.
@@ -44,7 +45,8 @@ pub enum LookFault {
 ///
 /// An id is of a process, by its address and process id. A line is in order where its micros are above those of each
 /// earlier line of its process. Of each process every 16th in-order line is indexed, by its id and its place; of each id
-/// that other lines have, the first of them. So an in-order log takes a few bytes a line beside the cache, and no record.
+/// that other lines have, the first of them. So an in-order log takes a few bytes a line, and no record but those of the
+/// cache.
 #[derive(Drop)]
 pub struct EventStore<L: LogFile> {
     tail: Tail<L>,
@@ -53,7 +55,7 @@ pub struct EventStore<L: LogFile> {
     recent: Recent,
     alloc: Global,
     ghost small: { read < 2 ^ 64 },
-    ghost held: { ∥ (IsTrue L.tells → Holds (L.bytes tail.log) tail.place read index (at_hand recent)) ∥₁ },
+    ghost held: { ∥ (IsTrue L.tells → Holds (L.bytes tail.log) tail.place read index recent.records.entries) ∥₁ },
 }
 
 impl<L: LogFile> EventStore<L> {
@@ -65,21 +67,30 @@ impl<L: LogFile> EventStore<L> {
     ghost use Rattle.event_store.specs.Found.{IsLookup, IsSpelled};
     ghost use Rattle.event_store.specs.Order.{entries_of};
 
-    /// A store of the log's queries, of which nothing is read yet. `cache` is of how many lines the places are kept at hand at
-    /// most, two where it is 1; their memory is taken as they come.
-    pub fn new(alloc: Global, log: L, cache: u32) -> Result<EventStore<L>, (AllocError, L)>
+    /// A store of the log's queries, of which nothing is read yet. `cache` is how many records are kept at hand at most, by a
+    /// hash with these keys, since whoever writes the log chooses the ids.
+    pub fn new(
+        alloc: Global,
+        keys: RandomState,
+        log: L,
+        cache: u32,
+    ) -> Result<EventStore<L>, (AllocError, L)>
         requires { 1 ≤ cache }
         ensures log { IfOk result (λ store. store.tail.log ≡ log) }
         ensures place { IfOk result (λ store. store.tail.place ≡ 0) }
+        ensures most { IfOk result (λ store. store.recent.records.cap ≡ cache) }
         ensures err { IfErr result (λ e. e.1 ≡ log) }
     {
-        Ok(EventStore {
-            tail: Tail::new(log, 0),
-            read: 0,
-            index: Index::new(alloc),
-            recent: Recent::new(alloc, cache),
-            alloc,
-        })
+        match Recent::new(alloc, keys, cache) {
+            Ok(recent) => Ok(EventStore {
+                tail: Tail::new(log, 0),
+                read: 0,
+                index: Index::new(alloc),
+                recent,
+                alloc,
+            }),
+            Err(error) => Err((error, log)),
+        }
     }
 
     /// Gives the log back.
@@ -107,13 +118,14 @@ impl<L: LogFile> EventStore<L> {
     /// Reads the next line. A block of 4 KiB is read at a time. Logarithmic time beside that, and memory for an
     /// entry at every 16th in-order line of a process and at each line that is out of order.
     ///
-    /// Where a record in order begins is kept at hand, so a look-up of its id that follows reads its line alone.
+    /// A record that is in order is kept at hand, so a look-up of its id that follows reads nothing.
     pub fn advance(&mut self) -> Result<Step, LookFault>
         ensures line { IsTrue L.tells → result ≡ Ok step.Line → (read : Option Query) × ReadsNext (L.bytes self.old.tail.log) self.old.tail.place self.new.tail.place read }
         ensures end { IsTrue L.tells → result ≡ Ok step.End → IsAtEnd (L.bytes self.old.tail.log) self.old.tail.place }
         ensures end_stays { result ≡ Ok step.End → self.new.tail.place ≡ self.old.tail.place }
         ensures err { OnErr result (self.new.tail.place ≡ self.old.tail.place) }
         ensures same { IsTrue L.tells → L.bytes self.new.tail.log ≡ L.bytes self.old.tail.log }
+        ensures most { self.new.recent.records.cap ≡ self.old.recent.records.cap }
         ensures tally { L.faults self.new.tail.log ≡ tallied (L.faults self.old.tail.log) (is_read_fault result) }
     {
         let place = self.tail.place();
@@ -133,15 +145,15 @@ impl<L: LogFile> EventStore<L> {
     /// The first record with the id among the lines read.
     ///
     /// Logarithmic time, and nothing is read, where the id's micros are above those of all lines of its process, or
-    /// its process has none; one line is read where its place is at hand. Else it reads again the lines between two entries
-    /// of the process, found in logarithmic time. Of the line that it finds so, and of the lines behind it, up to 32 in all, it
-    /// keeps the places at hand, each in logarithmic time: who asks nearly in the log's order finds most of them there.
-    #[tactic(auto, using(crate::proofs::Holding::held_at_hand))]
+    /// its process has none, or the record is at hand. Else it reads again the lines between two entries of the process, found
+    /// in logarithmic time, and keeps the record at hand. Where that line is near the one that was found so before, it keeps
+    /// the records of up to 32 lines from there on too: who asks nearly in the log's order finds most of them at hand.
     pub fn lookup(&mut self, id: EventId) -> Result<Lookup, LookFault>
         ensures found { IsTrue L.tells → (lines : List (Option Query)) → AreRead (L.bytes self.old.tail.log) self.old.tail.place lines → IfOk result (IsLookup lines id) }
         ensures spelled { IfOk result IsSpelled }
         ensures place { self.new.tail.place ≡ self.old.tail.place }
         ensures same { IsTrue L.tells → L.bytes self.new.tail.log ≡ L.bytes self.old.tail.log }
+        ensures most { self.new.recent.records.cap ≡ self.old.recent.records.cap }
         ensures tally { L.faults self.new.tail.log ≡ tallied (L.faults self.old.tail.log) (is_read_fault result) }
     {
         let read = self.read;

@@ -1,7 +1,8 @@
 // One line more.
-ghost use Rattle.std.specs.Prelude.{◌≡◌, ◌+◌, ℕ, List, OnOk, OnErr};
+ghost use Rattle.std.specs.Prelude.{◌≡◌, ◌+◌, ℕ, List, IfSome, OnOk, OnErr};
+ghost use Rattle.log_records.specs.Line.{IsQuery};
 ghost use Rattle.event_store.specs.Read.{ReadsNext};
-ghost use Rattle.event_store.specs.Held.{Holds, at_hand};
+ghost use Rattle.event_store.specs.Held.{Holds};
 
 use crate::index::Index;
 use crate::recent::Recent;
@@ -15,15 +16,16 @@ pub(crate) fn take_in(
     place: u64,
     line: Option<QueryRec>,
 ) -> Result<(), AllocError>
-    ensures ok { OnOk result ((log : List ℕ) (end_ : ℕ) (count : ℕ) → Holds log place count index.old (at_hand recent.old) → ReadsNext log place end_ line → Holds log end_ (count + 1) index.new (at_hand recent.new)) }
-    ensures err { OnErr result ((log : List ℕ) (count : ℕ) → Holds log place count index.old (at_hand recent.old) → Holds log place count index.new (at_hand recent.new)) }
+    requires { IfSome line IsQuery }
+    ensures ok { OnOk result ((log : List ℕ) (end_ : ℕ) (count : ℕ) → Holds log place count index.old recent.old.records.entries → ReadsNext log place end_ line → Holds log end_ (count + 1) index.new recent.new.records.entries) }
+    ensures err { OnErr result ((log : List ℕ) (count : ℕ) → Holds log place count index.old recent.old.records.entries → Holds log place count index.new recent.new.records.entries) }
+    ensures most { recent.new.records.cap ≡ recent.old.records.cap }
 {
     let query = match line {
         Some(query) => query,
         None => return Ok(()),
     };
-    let is_next = index.is_next(query.id);
-    index.see(query.id, place)?;
-    recent.remember(is_next, query.id, place);
+    let is_next = index.see(query.id, place)?;
+    recent.remember(is_next, query);
     Ok(())
 }

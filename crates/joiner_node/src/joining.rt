@@ -11,6 +11,7 @@ use joiner_core::{Change, JoinerCore, JoinerNote, Turn};
 use outside::LogFile;
 use site_node::{Core, NodeFault};
 use std::alloc::{AllocError, Global};
+use std::hash::RandomState;
 use std::marker::Model;
 use turn_defs::Input;
 
@@ -42,13 +43,14 @@ impl<L: LogFile> Joining<L> {
         number: u16,
         site: u8,
         held: HeldEpoch,
+        keys: RandomState,
         log: L,
     ) -> Result<Joining<L>, (AllocError, L)>
         ensures knows { IfOk result (λ joining. (g : Setting) (k : JoinerKept) → site ≡ site_of_joiner g number → IsQueryLog (L.bytes log) g.queries → held.epoch ≡ k.epoch → Knows joining g (record { number = number; disk = k }) None) }
         ensures log { IfOk result (λ joining. joining.queries.store.tail.log ≡ log) }
         ensures err { IfErr result (λ e. e.1 ≡ log) }
     {
-        match Queries::new(alloc, log) {
+        match Queries::new(alloc, keys, log) {
             Ok(queries) => Ok(Joining {
                 core: JoinerCore::new(alloc, number, site),
                 queries,

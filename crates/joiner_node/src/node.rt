@@ -11,6 +11,7 @@ use output_log::OutputLog;
 use outside::{Disk, LogFile};
 use site_node::{Core, Node, Records, SiteNode};
 use std::alloc::{AllocError, Global};
+use std::hash::RandomState;
 use turn_defs::Config;
 
 /// A joiner over its epoch journal, the log of the pairs that it wrote, and the query log: down, up, or stopped in an
@@ -21,8 +22,8 @@ use turn_defs::Config;
 /// it; after a query is found, later look-ups for it read nothing more.
 pub type JoinerNode<L, D> = Node<PairsKept, Joining<L>, Disks<D>>;
 
-/// The joiner of this place at this site, down, over its opened journals and the query log. Hands journals and log back
-/// where memory is wanting.
+/// The joiner of this place at this site, down, over its opened journals and the query log, with keys for the hash of the
+/// queries at hand. Hands journals and log back where memory is wanting.
 pub fn joiner_node<L: LogFile, D: Disk>(
     alloc: Global,
     site: u8,
@@ -30,6 +31,7 @@ pub fn joiner_node<L: LogFile, D: Disk>(
     config: Config,
     epochs: EpochJournal<D>,
     log: OutputLog<D>,
+    keys: RandomState,
     queries: L,
 ) -> Result<JoinerNode<L, D>, (AllocError, EpochJournal<D>, OutputLog<D>, L)>
     requires site { site < 2 }
@@ -47,7 +49,7 @@ pub fn joiner_node<L: LogFile, D: Disk>(
     let held = HeldEpoch {
         epoch: epochs.value().epoch(),
     };
-    match Joining::new(alloc, number, site, held, queries) {
+    match Joining::new(alloc, number, site, held, keys, queries) {
         Ok(joining) => {
             let (log, outputs) = log.into_parts();
             let written = outputs.pairs().len() as u64;

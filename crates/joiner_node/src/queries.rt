@@ -8,11 +8,11 @@ use joiner_core::{JoinerCore, JoinerInput, Looked};
 use log_records::ClickRec;
 use outside::LogFile;
 use std::alloc::{AllocError, Global};
+use std::hash::RandomState;
 use turn_defs::{Input, Node, Packet};
 
-// Of how many queries the places are kept at hand, some 6 MB. Where many processes write one log a look-up by the index passes over
-// the others' lines, so where those that were read lately begin is worth its memory.
-const CACHE: u32 = 1 << 17;
+// How many queries are kept at hand.
+const CACHE: u32 = 1_024;
 
 /// The queries of a log, of which those at its front were read.
 #[derive(Drop)]
@@ -28,12 +28,17 @@ impl<L: LogFile> Queries<L> {
 
     // Nothing is read yet.
     #[tactic(auto, using(crate::proofs::Reading::starts_at))]
-    pub(crate) fn new(alloc: Global, log: L) -> Result<Queries<L>, (AllocError, L)>
+    pub(crate) fn new(
+        alloc: Global,
+        keys: RandomState,
+        log: L,
+    ) -> Result<Queries<L>, (AllocError, L)>
         ensures log { IfOk result (λ queries. queries.store.tail.log ≡ log) }
         ensures reads { IfOk result (λ queries. (qs : List Query) → IsQueryLog (L.bytes log) qs → HasRead queries qs) }
+        ensures most { IfOk result (λ queries. queries.store.recent.records.cap ≡ 1024) }
         ensures err { IfErr result (λ e. e.1 ≡ log) }
     {
-        match EventStore::new(alloc, log, CACHE) {
+        match EventStore::new(alloc, keys, log, CACHE) {
             Ok(store) => Ok(Queries { store }),
             Err(refused) => Err(refused),
         }

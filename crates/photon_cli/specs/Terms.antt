@@ -4,7 +4,7 @@ pub use Rattle.clap.specs.Simple.{subcommand_of}
 pub use Rattle.command_words.specs.Clap.{number_in, photon_app, text_in}
 pub use Rattle.command_words.specs.Words.{AreBulkRanges, AreInRanges, AskFor, BulkValues, IsFound, IsPlain, NodeValues, Pairs, Text, Values, Wish, a_bulk_run, a_drill, a_join, a_resharding, a_verification, bulk_values, command_of, given, texts, values_in}
 pub use Rattle.command_words.specs.declared.asked.WordsFault.{WordsFault}
-pub use Rattle.dispatch_node.specs.Places.{IsLogOf}
+pub use Rattle.dispatch_core.specs.Places.{IsLogOf}
 pub use Rattle.event_id.specs.declared.id.EventId.{EventId}
 pub use Rattle.gate_journal.specs.Images.{GoesOn, IsKeptIn, StaysAs}
 pub use Rattle.list_words.specs.Bytes.{Lacks}
@@ -45,7 +45,7 @@ pub use Rattle.run_fault.specs.declared.fault.LogName.TheVariants.{Clicks, Queri
 pub use Rattle.run_fault.specs.declared.fault.LogName.{LogName}
 pub use Rattle.run_fault.specs.declared.fault.RunFault.{RunFault}
 pub use Rattle.run_fault.specs.declared.fault.StorePlace.{StorePlace}
-pub use Rattle.site_laws.specs.Stores.{AreAllLeft, AreLeft, Bytes, HoldsRecords, Images, IsChoice, IsSoundStore}
+pub use Rattle.site_laws.specs.Stores.{AreAllLeft, AreLeft, Bytes, HoldsRecords, Images, IsChoice, IsDisk, IsSoundStore}
 pub use Rattle.site_run.specs.Asked.{IsSettingOf}
 pub use Rattle.site_run.specs.Joined.{Joins, JoinsAfresh, RanAfresh}
 pub use Rattle.site_run.specs.Left.{HasRun, RunLeft}

@@ -21,7 +21,7 @@ module _ (told : List ℕ → Option (List ℕ)) where
   -- of a run that began
   abbrev pub IsToldOf : Values → (disks : Bool) → Images → (files faulted unrun : Type 0) → Option RunLog → RunFault → Type 0
   IsToldOf v disks before files faulted unrun ran f =
-      IsNamed v f × (IsTrue disks → (g : Setting) → IsAsked told v g → IsCauseOf g before files faulted f × (unrun ⊎ IfSome ran (λ l. NamesFailed g l.air.history f)))
+      IsNamed v f × (IsTrue disks → (g : Setting) → IsAsked told v g → IsCauseOf g before files faulted f × (unrun ⊎ IfSome ran (λ l. NamesFailed g l.air.history l.opened f)))
 
   -- the same of a drill, and one that names a place of the plan names its first bad one
   abbrev pub IsNamedInDrill : Values → Text → RunFault → Type 0

@@ -1,12 +1,15 @@
 // What follows from how calls end.
 ghost use Rattle.std.specs.Prelude.{◌≡◌, ◌<◌, ◌+◌, ℕ, List, [], IsTrue, Some};
-ghost use Rattle.photon_cli.specs.Terms.{AreAllLeft, Bytes, Checked, DiskName, Disks, GoesOn, HasRun, HoldsRecords, IsSoundStore, PlanView, Rose, RunLog, Setting, Wish};
+ghost use Rattle.photon_cli.specs.Terms.{AreAllLeft, Bytes, Checked, DiskName, Disks, GoesOn, HasRun, HoldsRecords, IsSoundStore, PlanView, Rose, RunLog, Setting, Text, Wish};
 ghost use Rattle.site_laws.specs.Laws.{made_by};
 ghost use Rattle.photon_cli.specs.Join.{IsHeardOf};
 ghost use Rattle.site_run.specs.declared.ran.Ran.{Ran};
 ghost use Rattle.photon_cli.specs.Again.{AreCalls, AreOutputOnce, Call, KeepsBy, setting_after, store_after};
+ghost use Rattle.photon_cli.specs.Causes.{IsOverLog};
 ghost use Rattle.photon_cli.specs.Ends.{Ends};
 ghost use Rattle.photon_cli.specs.Join.{IsHistory};
+ghost use Rattle.photon_cli.specs.SameReport.{AreInTurn, Ended, HasReported, LeavesOnly, SameReport};
+ghost use Rattle.photon_cli.specs.declared.engine.run.TheConstants.{REPLICAS};
 
 use outside::{Sink, Source, Store};
 
@@ -29,6 +32,21 @@ pub fn again<F: Source, S: Store, K: Sink>()
     site_laws::stores::longer::<S>();
     photon_model::stores();
     photon_model::headline();
+}
+
+/// Of a sound store of which a stop leaves no choice, a verification writes the same bytes before and after a resharding, and ends with the
+/// same status, however the resharding ends.
+pub fn same_report<F: Source, S: Store, K: Sink>()
+    ensures { (g : Setting) (b : Bytes) (clicks row : Text) (first between last : Ended F S K) → IsTrue F.Log.tells → IsTrue K.tells → IsTrue S.Disk.tells
+        → AreInTurn F.Log.tells K.tells S.Disk.tells F.bytes F.faults K.held K.faults S.image S.faults clicks row first between last
+        → IsOverLog (F.bytes first.files) clicks g → g.config.replicas ≡ REPLICAS → IsSoundStore g (S.image first.store) → LeavesOnly g (S.image first.store) b
+        → HasReported first → HasReported last → SameReport K.held first last }
+{
+    site_laws::stores::once();
+    site_laws::stores::read();
+    site_laws::stores::same();
+    site_laws::stores::fits();
+    photon_model::added_rows();
 }
 
 /// The replica that the plan takes for dead has no entry in the history that a run leaves.

@@ -1,6 +1,6 @@
 -- Where the kept notes and the input have spellings, so have the row's note and packets.
-use Rattle.std.proofs.Common.{◌≡◌, ℕ, List, ◌++◌, length, length-append, IfSome, Option, Some, None, sym, ap, ◌∙◌, arith}
-use Rattle.replica_node.proofs.Words.{Each, ReplicaNote, note, Note, land, ReplicaKept, land_replica, noted, IsNote, IsRowNote, each_push, IsVoted}
+use Rattle.std.proofs.Common.{◌≡◌, IfSome, Option, Some, None, arith}
+use Rattle.replica_node.proofs.Words.{Each, ReplicaNote, Note, land, ReplicaKept, land_replica, noted, IsNote, IsRowNote, each_push, IsVoted}
 use Rattle.paxos_acceptor.specs.declared.notes.ReplicaNote.TheVariants as replica
 
 pub note_ok : (o : Option ReplicaNote) (n : Option Note) → noted o ≡ n → IsRowNote n → IfSome o IsNote
@@ -11,9 +11,3 @@ pub landed_ok : (k : ReplicaKept) (o : Option ReplicaNote) → Each IsVoted k.no
 landed_ok k None all is = all
 landed_ok k (Some (replica.Promised s l b)) all is = each_push k.notes _ all is
 landed_ok k (Some (replica.Accepted s l b v)) all is = each_push k.notes _ all is
-
--- bytes that are a note's, with none behind them
-pub left_behind : (payload rest : List ℕ) (w v : ReplicaNote) → payload ≡ note w ++ rest → payload ≡ note v → w ≡ v → (length rest ≡ 0 → ⊥) → ⊥
-left_behind payload rest w v found is same some =
-    let whole : note v ≡ note v ++ rest = sym is ∙ found ∙ ap (λ (x : ReplicaNote). note x ++ rest) same in
-    some (omega (arith, ap length whole, length-append (note v) rest))

@@ -8,8 +8,8 @@ pub use Rattle.replica_node.specs.Core.{GoesOn, IsRow, Knows, Stands, Turn, note
 pub use Rattle.replica_node.specs.Kept.{Doubts, Holds, IsCalm, either_way, same_calm, still_calm}
 pub use Rattle.replica_node.specs.Node.{KnowsAs, Makes, VoterView, with_note}
 pub use Rattle.replica_node.specs.Terms.{Accepted, Acceptor, BallotNote, Batch, Continues, Deliver, Each, IsLeft, IsNote, IsOldOrNew, IsRefusedAgain, IsUndamaged, IsVoted, KeepsNotes, KeepsOr, Note, OnDisk, Own, Packet, Place, Promised, Read, Ready, ReplicaKept, ReplicaNote, Setting, StandsFor, Start, Throughout, Tick, Voted, accepts, cell_at, cell_in, cell_with, continues_through, gate_rule, kept_of, land, land_replica, note, note_apart, note_at, note_for, note_view, on_accept, on_prepare, place_of, prepared, prepares, records, replica_gets, replica_rows, replica_start, same_batch, says, taken, worked}
-pub use Rattle.replica_node.specs.VoteLaws.{OneNote, fits}
-pub use Rattle.replica_node.specs.Votes.{is_damaged_at, spells}
+pub use Rattle.output_log.specs.VoteLaws.{OneNote, fits}
+pub use Rattle.output_log.specs.Votes.{is_damaged_at, spells}
 pub use Rattle.replica_node.specs.declared.replica_core.ReplicaCore.{ReplicaCore}
 pub use Rattle.replica_node.specs.declared.turn.Change.{Change}
 pub use Rattle.replica_node.specs.declared.turn.Change.TheVariants.{Stays}

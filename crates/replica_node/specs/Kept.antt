@@ -3,7 +3,7 @@ use Rattle.std.proofs.Common.{◌≡◌, ◌⊎◌, inl, inr, ⊎_elim, ℕ, ◌
 use Rattle.replica_node.specs.Terms.{Accepted, Continues, KeepsNotes, KeepsOr, OnDisk, Promised, Ready, ReplicaKept, ReplicaNote, Throughout, kept_of, note, note_view, records_of, vote_record, continues_same}
 use Rattle.gate_journal.specs.declared.journal.JournalState.{JournalState}
 use Rattle.outside.specs.declared.disk.Disk as disk
-use Rattle.replica_node.specs.Votes.{spells}
+use Rattle.output_log.specs.Votes.{spells}
 use Rattle.replica_node.specs.declared.vote_records.VoteRecords.{VoteRecords}
 
 pub view_record : (n : ReplicaNote) → vote_record (note_view n) ≡ note n

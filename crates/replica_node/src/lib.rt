@@ -10,11 +10,9 @@ mod replica_core;
 mod turn;
 mod vote_records;
 mod voter;
-mod votes;
 
 pub use node::{ReplicaNode, into_disk, replica_node};
 pub use replica_core::ReplicaCore;
 pub use turn::{Change, Turn};
 pub use vote_records::VoteRecords;
 pub use voter::{Voter, VotesKept};
-pub use votes::{VoteJournal, Votes};

@@ -5,7 +5,7 @@ ghost use Rattle.site_node.specs.Shell.{StandsAt, down_over};
 
 use crate::vote_records::VoteRecords;
 use crate::voter::{Voter, VotesKept};
-use crate::votes::VoteJournal;
+use output_log::VoteJournal;
 use outside::Disk;
 use site_node::{Core, Node, Records, SiteNode};
 use std::alloc::Global;

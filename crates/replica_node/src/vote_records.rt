@@ -1,17 +1,18 @@
 // What a replica keeps on its disk.
-ghost use Rattle.std.specs.Prelude.{◌≡◌, List, ℕ, length, true};
-ghost use Rattle.replica_node.specs.Terms.{Continues, OnDisk, Ready, Voted, note_view, of_two};
-ghost use Rattle.replica_node.specs.VoteLaws.{OneNote, one_note};
+ghost use Rattle.std.specs.Prelude.{◌≡◌, IfOk, List, ℕ, length, true};
+ghost use Rattle.replica_node.specs.Terms.{Continues, IsNote, OnDisk, Ready, Voted, note as note_spelled, note_view, of_two};
+ghost use Rattle.output_log.specs.VoteLaws.{OneNote, one_note};
 
 use crate::voter::{Voter, VotesKept};
-use crate::votes::vote_record;
-use crate::{VoteJournal, Votes};
 use air_bus::Payload;
 use gate_journal::Journal;
+use output_log::{VoteJournal, Votes};
 use outside::Disk;
+use packet_codec::Field;
 use paxos_acceptor::ReplicaNote;
 use site_node::{NodeDisk, NodeFault, Records, fault_of};
 use std::alloc::{AllocError, Global};
+use wire_core::Bytes;
 
 /// A replica's journal. The notes that it holds aren't in memory while the replica is up.
 #[derive(Drop)]
@@ -114,4 +115,14 @@ impl<D: Disk> Records<VotesKept, Voter> for VoteRecords<D> {
             Err(fault) => Err(fault_of(NodeDisk::First, fault)),
         }
     }
+}
+
+// The record of a note, as the journal and the bus take it. Linear in the note.
+fn vote_record(alloc: Global, note: &ReplicaNote) -> Result<Payload, AllocError>
+    requires { IsNote note.now }
+    ensures { IfOk result (λ r. r ≡ note_spelled note.now) }
+{
+    let mut bytes = Bytes::new(alloc);
+    note.put(&mut bytes)?;
+    Payload::from_slice(alloc, bytes.as_slice())
 }

@@ -2,8 +2,9 @@
 ghost use Rattle.std.specs.Prelude.{[], ◌≡◌, false, Some, None, true, zero, ⊤};
 ghost use Rattle.replica_node.specs.Terms.{ReplicaKept, IsNote, Setting, Voted, kept_of, note_view, replica_rows, replica_at_rest, replica_unfinished, replica_wants};
 
+use crate::ReplicaCore;
 use crate::turn::{Change, Turn, idle};
-use crate::{ReplicaCore, Votes};
+use output_log::Votes;
 use paxos_acceptor::ReplicaNote;
 use site_node::{Core, NodeFault};
 use std::alloc::Global;

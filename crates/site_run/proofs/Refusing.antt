@@ -1,6 +1,6 @@
 -- Why a run over a store gives up, from what opening it tells and what a run of its nodes does.
 use Rattle.std.proofs.Common.{◌≡◌, ◌≢◌, inl, inr, ⊎_elim, ℕ, List, [], ◌∷◌, map, Bool, true, Option, Some, None, refl, sym, ◌∙◌, ap, subst, arith, IsTrue, IfSome, IsSomeAnd, Result, Ok, Err, OnOk, IfErr}
-use Rattle.site_run.proofs.Words.{eq-eqb, Each, Mem, each_at, BusEntry, DiskName, StoreFault, Topology, end_from, Dispatcher, Server, Replica, Joiner, Node, IsNode, node_number, Setting, IsLogOf, Disks, RunFault, Misplaced, IsCounted, IsWelcome, of_place, limit_at, limit_in, IsKeptIn, IsJournalOf, other_names, Images, IsDisk, joiner_of, place_at, site_of, IsAsked, EpochIs, KeepsEpoch, KeptDisk, KeptEpoch, KeptValues, Says, AreRecordsOf, all_named, at_name, was_journal, AreTold, ArePassed, IsCause, cause_more, failed_rose, passed_more, unread_rose, asked_of, HasPassed, IsCauseOf, IsLate, IsNearLast, IsOfRun, IsSpent, KeptAreJournals, NamesFailed, RunLog, TellsPlaces, disk_of, StorePlace, First, WereKept, IsKept, KeepsKind, Kept, EpochDisk, ServerDisk, TopologyDisk}
+use Rattle.site_run.proofs.Words.{eq-eqb, Each, Mem, each_at, BusEntry, DiskName, StoreFault, Topology, end_from, Dispatcher, Server, Replica, Joiner, Node, IsNode, node_number, Setting, IsLogOf, Disks, RunFault, Misplaced, IsCounted, IsWelcome, of_place, limit_at, limit_in, IsKeptIn, IsJournalOf, other_names, Images, IsDisk, joiner_of, place_at, site_of, IsAsked, EpochIs, KeepsEpoch, KeptDisk, KeptEpoch, KeptValues, Says, AreRecordsOf, all_named, at_name, was_journal, AreTold, ArePassed, IsCause, cause_more, failed_rose, passed_more, unread_rose, asked_of, HasPassed, HasSpent, IsCauseOf, IsLate, IsNearLast, IsOfRun, IsSpent, KeptAreJournals, NamesFailed, RunLog, TellsPlaces, disk_of, StorePlace, First, WereKept, IsKept, KeepsKind, Kept, EpochDisk, ServerDisk, TopologyDisk}
 use Rattle.outside.specs.declared.faults.StoreFault.TheVariants as store
 use Rattle.run_fault.specs.declared.fault.StorePlace.TheVariants as place
 use Rattle.run_fault.specs.declared.fault.RunFault.TheVariants as fault
@@ -49,7 +49,7 @@ module _ (g : Setting) (before : Images) (disks : List KeptDisk) (limits : limit
     (named : map (λ (k : KeptDisk). k.name) disks ≡ other_names g.config.joiners g.config.replicas) where
   -- a disk that kept an epoch kept none that is the last one
   abbrev KeptLess : DiskName → ℕ → Type 0
-  KeptLess disk epoch = (epoch ≢ 4294967294) × IsKeptIn (before disk) (KeepsEpoch epoch)
+  KeptLess disk epoch = (epoch ≢ 4294967294) × IsKeptIn (before disk) (KeepsEpoch epoch) × Mem (record { name = disk; kept = EpochIs epoch }) disks
 
   of_disk : (disk : DiskName) (epoch : ℕ) → IsDisk g disk → disk ≢ TopologyDisk → ((k : Kept) → Says g d disk k → k ≡ EpochIs epoch) → KeptLess disk epoch
   of_disk disk epoch here other said =
@@ -57,6 +57,7 @@ module _ (g : Setting) (before : Images) (disks : List KeptDisk) (limits : limit
       let is = said o.0.kept (subst (λ (m : DiskName). Says g d m o.0.kept) o.2 (each_at (λ (k : KeptDisk). Says g d k.name k.kept) disks records o.0 o.1)) in (
         not_last o.0.name epoch (subst (λ k. limit_at o.0.name k ≡ None) is (none_at disks limits o.0 o.1)),
         subst (λ (m : DiskName). IsKeptIn (before m) (KeepsEpoch epoch)) o.2 (subst (λ k. IsKeptIn (before o.0.name) (KeepsKind k)) is (each_at (IsKept before) disks kept o.0 o.1)),
+        subst (λ (k : KeptDisk). Mem k disks) (λ i. record { name = o.2 i; kept = is i }) o.1,
       )
 
   of_node : (n : Node) (epoch : ℕ) → IsNode g n → KeptEpoch d n epoch → KeptLess (disk_of g.config (node_number n) First) epoch
@@ -86,6 +87,24 @@ module _ (g : Setting) (before : Images) (disks : List KeptDisk) (limits : limit
         last,
       )
 
+  -- and has stopped since its disk was opened
+  spent_so : (h : List BusEntry) (rose : Type 0) (disk : DiskName) (epoch : ℕ) → IsSpent g h d rose disk epoch → HasSpent g h disks disk epoch
+  spent_so h rose disk epoch spent =
+      let come = spent.came.2 in
+      let last = come.last in
+      let most = come.most in
+      let less = of_node spent.node spent.came.0 spent.is spent.came.1 in
+      let other = less.0 in record {
+        node = spent.node;
+        is = spent.is;
+        named = spent.named;
+        kept = spent.came.0;
+        was = subst (λ (m : DiskName). Mem (record { name = m; kept = EpochIs spent.came.0 }) disks) (sym spent.named) less.2;
+        came = come;
+        some = omega (arith, last, come.least, most, other);
+        few = spent.few;
+      }
+
   -- ---- of a run of the nodes
 
   late_of : (ran : Option RunLog) (rose faulted : Type 0) → (rose → faulted) → (disk : DiskName) (epoch : ℕ) → IsSomeAnd ran (λ l. IsSpent g l.air.history d rose disk epoch) → (faulted × IsNearLast g before disk) × (epoch ≡ 4294967294)
@@ -100,11 +119,15 @@ module _ (g : Setting) (before : Images) (disks : List KeptDisk) (limits : limit
   cause_so ran read faulted rose more fault.Memory counted of = tt
   cause_so ran read faulted rose more _ counted of = absurd of
 
--- it names what failed by the history
-pub named_so : (g : Setting) (d : Disks) (rose : Type 0) (ran : Option RunLog) (f : RunFault) → IsOfRun g d rose ran f → IfSome ran (λ l. NamesFailed g l.air.history f)
-named_so g d rose ran f of = grind arith
+  -- and it names what failed by the history
+  pub named_so : (ran : Option RunLog) (rose : Type 0) → IfSome ran (λ l. l.opened ≡ disks) → (f : RunFault) → IsOfRun g d rose ran f → IfSome ran (λ l. NamesFailed g l.air.history l.opened f)
+  named_so None rose opened f of = tt
+  named_so (Some l) rose opened (fault.Limit disk value) of = subst (λ (ks : List KeptDisk). HasSpent g l.air.history ks disk value) (sym opened) (spent_so l.air.history rose disk value of)
+  named_so (Some l) rose opened (fault.Read log) of = of
+  named_so (Some l) rose opened (fault.Store at) of = of
+  named_so (Some l) rose opened _ of = tt
 
--- and it is none for which a sound store would be refused
+-- it is none for which a sound store would be refused
 pub welcome_so : (g : Setting) (d : Disks) (rose holds : Type 0) (ran : Option RunLog) (f : RunFault) → IsOfRun g d rose ran f → IsWelcome holds f
 welcome_so g d rose holds ran f of = grind arith
 

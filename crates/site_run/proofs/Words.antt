@@ -73,7 +73,7 @@ pub use Rattle.site_run.specs.Naming.{DisksIn, IsTakenFrom, all_from, as_lent, c
 pub use Rattle.site_run.specs.Out.{AreOut}
 pub use Rattle.site_run.specs.Over.{RunsOver}
 pub use Rattle.site_run.specs.Placed.{AllAt, IsDownAt, IsUpAt}
-pub use Rattle.site_run.specs.Refused.{HasPassed, IsCauseOf, IsLate, IsNearLast, IsOfRun, IsSpent, KeptAreJournals, NamesFailed, TellsPlaces, asked_of}
+pub use Rattle.site_run.specs.Refused.{HasPassed, HasSpent, IsCauseOf, IsLate, IsNearLast, IsOfRun, IsSpent, KeptAreJournals, NamesFailed, TellsPlaces, asked_of}
 pub use Rattle.site_run.specs.Resting.{AllKeep, IsClosed, KeepsAs}
 pub use Rattle.site_run.specs.Running.{AreDownOver, ComesToLast, DeadAreReplicas, HasCome, HaveGrown, IsRunFrom, KeptEpoch}
 pub use Rattle.site_run.specs.Settled.{AreKeptIn, AreUp, first_fault, lent_outputs, lent_replicas, told_of}

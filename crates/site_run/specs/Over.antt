@@ -34,7 +34,7 @@ module _ (g : Setting) (before after : Images) (read faulted : Type 0) (ran : Op
     pub ends : EndsOver result
     pub left : IfSome ran (RunLeft g before after)
     pub rest : IfOk result (λ outcome. IsSomeAnd ran (λ l. RestLeft g before after l.air.history faulted outcome.journals))
-    pub named : IfErr result (λ f. IfSome ran (λ l. NamesFailed g l.air.history f))
+    pub named : IfErr result (λ f. IfSome ran (λ l. NamesFailed g l.air.history l.opened f))
 
 -- How a run of nodes ends that were opened over these records, while their disks and the topology's are out. The disks go on from what might
 -- have been left of them, and the history is a run from any records that say the same. What failed is named by it.

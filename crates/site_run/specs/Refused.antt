@@ -1,6 +1,6 @@
 -- Why a run over a store gives up, by what a stop might have left of its disks before it.
 use Rattle.std.specs.Prelude.{◌≡◌, ◌⊎◌, ℕ, ◌+◌, ◌≤◌, List, ◌∷◌, true, Option, None, Some, IsSomeAnd, ⊤}
-use Rattle.site_run.specs.Terms.{BusEntry, DiskName, Disks, First, HasCause, Images, IsDisk, IsJournalOf, IsKeptIn, IsNode, KeptDisk, KeptValues, LAST_EPOCH, Mem, Node, RunFault, Setting, TopologyDisk, is_in_turn, is_read, joiners_kept, made_by, node_number, other_names, stop_count}
+use Rattle.site_run.specs.Terms.{BusEntry, DiskName, Disks, EpochIs, First, HasCause, Images, IsDisk, IsJournalOf, IsKeptIn, IsNode, KeptDisk, KeptValues, LAST_EPOCH, Mem, Node, RunFault, Setting, TopologyDisk, is_in_turn, is_read, joiners_kept, made_by, node_number, other_names, stop_count}
 use Rattle.epoch_journal.specs.Epochs.{Keeps as KeepsEpoch}
 use Rattle.topology_journal.specs.declared.topology.Topology.{Topology}
 use Rattle.topology_journal.specs.Topologies.{Keeps as KeepsTopology}
@@ -12,7 +12,7 @@ use Rattle.site_store.specs.Records.{AreKept}
 use Rattle.site_store.specs.Causes.{HasPassed as PassesFor}
 use Rattle.site_run.specs.Causes.{disk_of}
 use Rattle.site_run.specs.Naming.{log_read, names_of}
-use Rattle.site_run.specs.Running.{ComesToLast}
+use Rattle.site_run.specs.Running.{ComesToLast, HasCome}
 use Rattle.site_run.specs.declared.ran.RunLog.{RunLog}
 
 -- the topology that a setting asks for
@@ -79,15 +79,29 @@ module _ (g : Setting) (h : List BusEntry) where
   abbrev pub IsInTurn : Node → Type 0
   IsInTurn n = is_in_turn (made_by (node_number n) h) ≡ true
 
+  -- A node has come to the last epoch, which is this one. The disk is that of its epochs, and kept this lower one when it was opened. The
+  -- node has stopped, and eight times at most.
+  pub record HasSpent (opened : List KeptDisk) (disk : DiskName) (epoch : ℕ) : Type 0 where
+    pub node : Node
+    pub is : IsNode g node
+    pub named : disk ≡ disk_of g.config (node_number node) First
+    pub kept : ℕ
+    pub was : Mem (record { name = disk; kept = EpochIs kept }) opened
+    pub came : HasCome (node_number node) (made_by (node_number node) h) kept epoch
+    pub some : 1 ≤ stops_of node
+    pub few : stops_of node ≤ 8
+
   -- What a fault names has failed by the history: a log that a node in a turn reads; a disk of a node in a turn, or, where none is in one, a
-  -- disk that is read back; a node that has stopped eight times.
-  abbrev pub NamesFailed : RunFault → Type 0
-  NamesFailed (fault.Read log) = (n : Node) × IsNode g n × (log_read n ≡ Some log) × IsInTurn n
-  NamesFailed (fault.Store (place.Node n)) = HasEnded n
-  NamesFailed (fault.Store (place.Disk disk)) =
+  -- disk that is read back; a node that has stopped eight times; the disk of a node that has come to its last epoch, by what the disks kept
+  -- when they were opened.
+  abbrev pub NamesFailed : (opened : List KeptDisk) → RunFault → Type 0
+  NamesFailed opened (fault.Read log) = (n : Node) × IsNode g n × (log_read n ≡ Some log) × IsInTurn n
+  NamesFailed opened (fault.Store (place.Node n)) = HasEnded n
+  NamesFailed opened (fault.Store (place.Disk disk)) =
       ((n : Node) × IsNode g n × Mem disk (names_of g.config n) × IsInTurn n) ⊎ (((n : Node) → IsNode g n → IsInTurn n → ⊥) × IsDisk g disk × (is_read disk ≡ true))
-  NamesFailed (fault.Store place.Directory) = ⊥
-  NamesFailed _ = ⊤
+  NamesFailed opened (fault.Store place.Directory) = ⊥
+  NamesFailed opened (fault.Limit disk value) = HasSpent opened disk value
+  NamesFailed opened _ = ⊤
 
   -- A node has come to the last epoch, which is this one. The disk is that of its epochs, and it has stopped eight times at most; where it
   -- has at all a disk met a fault.
@@ -102,8 +116,8 @@ module _ (g : Setting) (h : List BusEntry) where
 -- No disk is told as damaged, and the topology as no other. What failed is named by the history, and a limit of a node that came to its last
 -- epoch.
 abbrev pub IsOfRun : Setting → Disks → Type 0 → Option RunLog → RunFault → Type 0
-IsOfRun g d faulted ran (fault.Read log) = IsSomeAnd ran (λ l. NamesFailed g l.air.history (fault.Read log))
-IsOfRun g d faulted ran (fault.Store at) = IsSomeAnd ran (λ l. NamesFailed g l.air.history (fault.Store at))
+IsOfRun g d faulted ran (fault.Read log) = IsSomeAnd ran (λ l. NamesFailed g l.air.history l.opened (fault.Read log))
+IsOfRun g d faulted ran (fault.Store at) = IsSomeAnd ran (λ l. NamesFailed g l.air.history l.opened (fault.Store at))
 IsOfRun g d faulted ran (fault.Limit disk value) = IsSomeAnd ran (λ l. IsSpent g l.air.history d faulted disk value)
 IsOfRun g d faulted ran fault.Memory = ⊤
 IsOfRun g d faulted ran _ = ⊥

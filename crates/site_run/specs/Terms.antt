@@ -4,7 +4,7 @@ pub use Rattle.air_bus.specs.declared.entry.Entry.{Entry as BusEntry}
 pub use Rattle.air_bus.specs.declared.entry.Input.TheVariants.{Start}
 pub use Rattle.air_bus.specs.declared.entry.Input.{Input}
 pub use Rattle.ballot_core.specs.declared.TheConstants.{LAST_EPOCH}
-pub use Rattle.dispatch_node.specs.Places.{AreKeptPlaces, IsLogOf}
+pub use Rattle.dispatch_core.specs.Places.{AreKeptPlaces, IsLogOf}
 pub use Rattle.gate_journal.specs.Images.{GoesOn, IsKeptIn, StaysAs}
 pub use Rattle.list_words.specs.Lists.{Each, Mem, option_or_else}
 pub use Rattle.log_records.specs.Lines.{ClickLine, end_from}
@@ -39,7 +39,7 @@ pub use Rattle.site_store.specs.Lent.{IsOfOne, Lacks, Lent, MayBeLeft}
 pub use Rattle.site_store.specs.Misfits.{or_else}
 pub use Rattle.site_store.specs.Plans.{AllAsPlanned, HasSoon, Left}
 pub use Rattle.site_store.specs.ReadBack.{AreAmongImages, AreReadFrom, EachWith, IsOnlyRead, IsToldBy, OneWith, is_output, is_read, is_replica, outputs, replicas}
-pub use Rattle.site_store.specs.Records.{AreRecordsOf, KeptDisk, KeptValues, OpenView, kept_all, lent_all, topology_lent}
+pub use Rattle.site_store.specs.Records.{AreRecordsOf, EpochIs, KeptDisk, KeptValues, OpenView, kept_all, lent_all, topology_lent}
 pub use Rattle.site_store.specs.Refusals.{IsJournalOf, other_names}
 pub use Rattle.site_store.specs.declared.lent.disk.LentDisk.{LentDisk}
 pub use Rattle.site_workers.specs.Works.{Path, Reached, is_in_turn, is_stop, stop_count}

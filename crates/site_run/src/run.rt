@@ -21,6 +21,7 @@ use outside::{Disk, DiskName, Gate, Source, Store};
 use site_laws::stores::topology_first;
 use site_store::{LentDisk, OpenDisk, OpenedDisk, open_store};
 use std::alloc::Global;
+use std::random::RandomSource;
 use std::sync::Wait;
 use std::thread::Threads;
 use topology_journal::Topology;
@@ -29,7 +30,8 @@ use topology_journal::Topology;
 /// back what its disks keep then. `end` is the end of the click log's last whole line. All logs and disks are given back at every
 /// return, and `ran` gets what the run leaves, nothing where none began.
 ///
-/// It opens the click log twice and the query log once for each joiner, and takes a thread for each node. The history takes memory linear in the packets that are sent.
+/// It opens the click log twice and the query log once for each joiner, and takes a thread for each node. The history takes no memory, but
+/// where `ran` asks for its entries each takes some, with its packets.
 ///
 /// What is said of the disks is said where the disks and the logs tell what they hold.
 pub fn run_sites<R, F, S, G>(
@@ -45,7 +47,7 @@ pub fn run_sites<R, F, S, G>(
     ran: &mut Ran,
 ) -> Result<Outcome, RunFault>
 where
-    R: Threads + Wait + Sync,
+    R: Threads + Wait + RandomSource + Sync,
     F: Source,
     S: Store,
     G: Gate,
@@ -71,7 +73,7 @@ where
 {
     photon_model::stores();
     ran.log = None;
-    let Ok(room) = Room::new(alloc, config) else {
+    let Ok(room) = Room::new(rt, alloc, config) else {
         return Err(RunFault::Memory);
     };
     let logs = match open_logs(alloc, files, names, config.joiners) {

@@ -2,7 +2,7 @@
 use Rattle.std.specs.Prelude.{◌≡◌, ℕ, List, Err, Option, None, Some}
 use Rattle.site_store.specs.Terms.{DiskName, IsOutputDamaged, IsTopologyDamaged, Topology, epoch_of, offset_of, pending_of}
 use Rattle.outside.specs.declared.store.DiskName.TheVariants as name
-use Rattle.replica_node.specs.Votes.{IsDamagedAt as IsVotesDamaged}
+use Rattle.output_log.specs.Votes.{IsDamagedAt as IsVotesDamaged}
 
 -- a file under this name is damaged at this place, as its kind of journal reads it
 abbrev pub damaged_by : DiskName → List ℕ → ℕ → Type 0

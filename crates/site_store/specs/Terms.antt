@@ -1,6 +1,6 @@
 -- Terms of other crates, for the definitions and contracts of this one.
 pub use Rattle.ballot_core.specs.declared.TheConstants.{LAST_EPOCH}
-pub use Rattle.dispatch_node.specs.Places.{AreKeptPlaces, IsLogOf}
+pub use Rattle.dispatch_core.specs.Places.{AreKeptPlaces, IsLogOf}
 pub use Rattle.epoch_journal.specs.Epochs.{Keeps as KeepsEpoch, epoch_of}
 pub use Rattle.gate_journal.specs.Gate.{StandsFor, gate_rule}
 pub use Rattle.gate_journal.specs.Images.{GoesOn, IsKeptIn, StaysAs}

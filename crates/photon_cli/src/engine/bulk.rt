@@ -17,6 +17,7 @@ use outside::{Gate, Sink};
 use report_text::write_totals;
 use site_run::{Machine, Ran, RunFault, status};
 use std::alloc::{AllocError, Global};
+use std::random::RandomSource;
 use std::sync::Wait;
 use std::thread::Threads;
 
@@ -83,7 +84,7 @@ fn without_reads(told: RunFault) -> RunFault
 ///
 /// It keeps both logs in memory, once for each node that reads one.
 pub fn bulk_totals<K: Sink>(
-    machine: Machine<'_, impl Threads + Wait + Sync, impl Gate>,
+    machine: Machine<'_, impl Threads + Wait + RandomSource + Sync, impl Gate>,
     wanted: &BulkOptions<'_>,
     out: &mut K,
     ran: &mut Ran,

@@ -22,6 +22,7 @@ use report_text::write_report;
 use site_laws::stores::empty_store;
 use site_run::meaning::means;
 use site_run::{Machine, Names, Outcome, Ran, RunFault, run_sites};
+use std::random::RandomSource;
 use std::sync::Wait;
 use std::thread::Threads;
 use time_shards::Table;
@@ -30,7 +31,7 @@ use verify_pass::classify;
 /// Checks both logs, runs both sites over a store in memory that is empty at first, and gives the report's line for each distinct
 /// click id. The plan says which packets are lost, repeated or late, which replica is dead and at which calls a disk stops.
 pub fn drilled_lines<F: Source<Log: Drop>>(
-    machine: Machine<'_, impl Threads + Wait + Sync, impl Gate>,
+    machine: Machine<'_, impl Threads + Wait + RandomSource + Sync, impl Gate>,
     wanted: &RunOptions<'_>,
     table: Table,
     plan: Plan,
@@ -78,7 +79,7 @@ pub fn drilled_lines<F: Source<Log: Drop>>(
 
 /// Drills with the plan of a file over the two logs of these names, and writes the report.
 pub fn drill_logs<F: Source<Log: Drop>, K: Sink>(
-    machine: Machine<'_, impl Threads + Wait + Sync, impl Gate>,
+    machine: Machine<'_, impl Threads + Wait + RandomSource + Sync, impl Gate>,
     wanted: &RunOptions<'_>,
     plan: &str,
     files: &mut F,

@@ -15,6 +15,7 @@ use outside::{Gate, Sink, Source, Store};
 use report_text::write_report;
 use site_run::meaning::means;
 use site_run::{Machine, Names, Outcome, Ran, RunFault, run_sites};
+use std::random::RandomSource;
 use std::sync::Wait;
 use std::thread::Threads;
 use verify_pass::classify;
@@ -23,7 +24,7 @@ use verify_pass::classify;
 ///
 /// It reads both logs whole first, in pieces of 64 KiB, and keeps the distinct ids of one log at a time, and those of the clicks to the end.
 pub fn join_logs<F: Source<Log: Drop>, S: Store<Disk: Drop>, K: Sink>(
-    machine: Machine<'_, impl Threads + Wait + Sync, impl Gate>,
+    machine: Machine<'_, impl Threads + Wait + RandomSource + Sync, impl Gate>,
     wanted: &RunOptions<'_>,
     state: &str,
     files: &mut F,
@@ -59,7 +60,7 @@ pub fn join_logs<F: Source<Log: Drop>, S: Store<Disk: Drop>, K: Sink>(
 
     // What the fault of a run names has failed by its history.
     ensures named { IsTrue S.Disk.tells → IsTrue F.Log.tells → (g : Setting) → IsAsked (F.bytes files.old) (values_in wanted.now) g
-        → IfErr result (λ f. (ran.new ≡ ran.old) ⊎ IfSome ran.new.log (λ l. NamesFailed g l.air.history f)) }
+        → IfErr result (λ f. (ran.new ≡ ran.old) ⊎ IfSome ran.new.log (λ l. NamesFailed g l.air.history l.opened f)) }
 
     // How it ends over the store, for whatever setting the values ask for.
     ensures ends { IsTrue S.Disk.tells → IsTrue F.Log.tells → (g : Setting) → IsAsked (F.bytes files.old) (values_in wanted.now) g → EndsOver g (S.image store.old) (S.image store.new)

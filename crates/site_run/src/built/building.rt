@@ -63,6 +63,7 @@ pub fn build<D: Disk, L: LogFile, N: Making<D, L>>(
         kinds,
         nodes,
         parts,
+        keys,
     } = room;
     let mut nodes = nodes;
     let mut stock = Stock {
@@ -71,6 +72,7 @@ pub fn build<D: Disk, L: LogFile, N: Making<D, L>>(
         rest: disks,
         logs,
         parts,
+        keys,
     };
     for number in 0..4 + config.replicas + 2 * config.joiners {
         match N::make(&mut stock, number) {
@@ -84,6 +86,7 @@ pub fn build<D: Disk, L: LogFile, N: Making<D, L>>(
         rest,
         logs,
         parts,
+        keys: _,
     } = stock;
     rest.destroy_empty();
     logs.clicks.destroy_empty();
@@ -116,6 +119,7 @@ fn give_up<D: Disk, L: LogFile, N: Parting<D, L>>(
         rest,
         logs,
         parts,
+        keys: _,
     } = stock;
     let mut parts = apart(nodes, &config, parts);
     put_open(rest, &mut parts);

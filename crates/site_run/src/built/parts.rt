@@ -7,6 +7,8 @@ use lossy_link::Kind;
 use outside::DiskName;
 use site_store::LentDisk;
 use std::alloc::{AllocError, Global};
+use std::hash::RandomState;
+use std::random::RandomSource;
 use turn_defs::Config;
 
 /// Disks under their names, and logs.
@@ -30,21 +32,31 @@ impl<D, L> Parts<D, L> {
     }
 }
 
-/// The kinds of the nodes of both sites in the order of their numbers, and the memory for the nodes and for what they are made of.
+/// The kinds of the nodes of both sites in the order of their numbers, the memory for the nodes and for what they are made of,
+/// and keys for the hash of the queries that joiners keep at hand.
 #[derive(Drop)]
 pub struct Room<D, L, N> {
     pub(crate) kinds: Vec<Kind>,
     pub(crate) nodes: Vec<N>,
     pub(crate) parts: Parts<D, L>,
+    pub(crate) keys: RandomState,
 }
 
 impl<D: Drop, L: Drop, N: Drop> Room<D, L, N> {
     ghost use Rattle.site_run.specs.Making.{IsRoomFor};
 
-    /// Room for all nodes: two disks and a log a node, and the topology's disk.
-    pub fn new(alloc: Global, config: &Config) -> Result<Room<D, L, N>, AllocError>
+    /// Room for all nodes: two disks and a log a node, and the topology's disk. Where there are no random keys it answers as for want of
+    /// memory.
+    pub fn new(
+        rt: &impl RandomSource,
+        alloc: Global,
+        config: &Config,
+    ) -> Result<Room<D, L, N>, AllocError>
         ensures { IfOk result (IsRoomFor config.now) }
     {
+        let Ok(keys) = RandomState::new(rt) else {
+            return Err(AllocError);
+        };
         let kinds = kinds(alloc, config)?;
         let count = kinds.len();
         Ok(Room {
@@ -54,6 +66,7 @@ impl<D: Drop, L: Drop, N: Drop> Room<D, L, N> {
                 disks: Vec::with_capacity(alloc, 2 * count + 1)?,
                 logs: Vec::with_capacity(alloc, count)?,
             },
+            keys,
         })
     }
 }

@@ -14,6 +14,7 @@ use site_node::SiteNode;
 use site_store::OpenDisk;
 use site_workers::OneOf;
 use std::alloc::Global;
+use std::hash::RandomState;
 use turn_defs::Config;
 
 /// The open disks and the logs of the nodes to come, and those of a node that wasn't made.
@@ -24,6 +25,7 @@ pub struct Stock<D: Disk, L: LogFile> {
     pub(crate) rest: Vec<OpenDisk<D>>,
     pub(crate) logs: Logs<L>,
     pub(crate) parts: Parts<D, L>,
+    pub(crate) keys: RandomState,
     ghost disk_room: { 2 * count_of config < vec_capacity parts.disks },
     ghost log_room: { count_of config ≤ vec_capacity parts.logs },
 }
@@ -94,7 +96,8 @@ impl<D: Disk, L: LogFile> Stock<D, L> {
         let epochs = take_disk(&mut self.rest, DiskName::Epoch(site, place)).into_epochs();
         let outputs = take_disk(&mut self.rest, DiskName::Output(site, place)).into_output();
         let log = take_last(&mut self.logs.queries);
-        match joiner_node(self.alloc, site, place, self.config, epochs, outputs, log) {
+        let (config, keys) = (self.config, self.keys);
+        match joiner_node(self.alloc, site, place, config, epochs, outputs, keys, log) {
             Ok(node) => Some(OneOf::Fourth(node)),
             Err((_, epochs, outputs, log)) => {
                 self.parts

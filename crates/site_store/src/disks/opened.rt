@@ -2,9 +2,8 @@
 use crate::disks::open_disk::{AnyJournal, OpenDisk};
 use epoch_journal::Epochs;
 use offset_journal::Offsets;
-use output_log::Outputs;
+use output_log::{Outputs, Votes};
 use outside::{Disk, DiskName};
-use replica_node::Votes;
 use retry_log::Retries;
 use std::marker::Model;
 use std::snapshot::Snapshot;

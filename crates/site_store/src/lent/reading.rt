@@ -6,9 +6,8 @@ ghost use Rattle.site_store.specs.ReadBack.{EachWith, OneWith, replicas, outputs
 use crate::disks::opening::told;
 use crate::lent::LentDisk;
 use crate::lent::records::read_again;
-use output_log::Outputs;
+use output_log::{Outputs, Votes};
 use outside::{Disk, DiskName};
-use replica_node::Votes;
 use run_fault::RunFault;
 use std::alloc::{AllocError, Global};
 use verify_pass::{Journals, NoteList, PairList};

@@ -88,6 +88,8 @@ returns-clause-over g c tells log_tells gg checked is =
     = λ none disk b now. may_behind image inside topology _ others _ same c.in-Ok-build.ensures.held disk b (run.idle tells none disk b now) in
     let nodes = run.over tells node_tells gg built is.logs.numbers held c.all_met.ensures down keeps in
     let whole : IfErr c.run_system.result (IsOfRun gg built from_there c.run_system.new.ran.log) = nodes.named in
+    let opened : IfSome c.run_system.new.ran.log (λ l. l.opened ≡ all_kept)
+    = subst (λ k. IfSome c.run_system.new.ran.log (λ l. l.opened ≡ k)) (c.kept_by_all-kept.ensures ∙ ap (λ k. kept_all {D = g.row.S-Disk.Denot} k) c.deref.ensures.value) run.opened in
     let named = names_kept d.disks.items ∙ o.named ∙ ap (λ n. other_names n c.args.config.now.replicas) (sym (ap (λ k. k.joiners) is.logs.numbers)) ∙ ap (other_names gg.config.joiners) (sym (ap (λ k. k.replicas) is.logs.numbers)) in
     record {
       ends = record {
@@ -105,10 +107,10 @@ returns-clause-over g c tells log_tells gg checked is =
             (λ f from of. cause_so gg before all_kept o.kept.2.limits (o.kept.1.kept tells) built begun.records named c.run_system.new.ran.log logs_rose disks_rose from_there later f (counted_more f logs_rose from_there logs_rose disks_rose (λ rose. rose) later from) of);
         welcome = λ sound. IfErr-weaker c.run_system.result _ _ (λ f of. welcome_so gg built from_there _ c.run_system.new.ran.log f of) whole;
       };
-      left = run_left c.run_system.new.ran.log gg before after were_kept all_kept were.1 begun.records (subst (λ k. IfSome c.run_system.new.ran.log (λ l. l.opened ≡ k)) (c.kept_by_all-kept.ensures ∙ ap (λ k. kept_all {D = g.row.S-Disk.Denot} k) c.deref.ensures.value) run.opened) nodes.left;
+      left = run_left c.run_system.new.ran.log gg before after were_kept all_kept were.1 begun.records opened nodes.left;
       rest = rest_earlier gg before before after (λ disk b now. now) c.run_system.result c.run_system.new.ran.log _ _ later
           (rest_left c.run_system.result c.run_system.new.ran.log gg before after were_kept from_there were.1 nodes.rest);
-      named = IfErr-weaker c.run_system.result _ _ (λ f of. named_so gg built from_there c.run_system.new.ran.log f of) whole;
+      named = IfErr-weaker c.run_system.result _ _ (λ f of. named_so gg before all_kept o.kept.2.limits (o.kept.1.kept tells) built begun.records named c.run_system.new.ran.log from_there opened f of) whole;
     }
 
 pub returns-in-Err-build-clause-over : goal.returns-in-Err-build-clause-over
@@ -139,7 +141,7 @@ returns-in-Err-build-clause-over g c tells log_tells gg checked is =
       };
       left = none_left (RunLeft gg before after) _ c.requires.none;
       rest = tt;
-      named = none_left (λ l. NamesFailed gg l.air.history fault.Memory) _ c.requires.none;
+      named = none_left (λ l. NamesFailed gg l.air.history l.opened fault.Memory) _ c.requires.none;
     }
 
 pub returns-in-Err-clause-over : goal.returns-in-Err-clause-over
@@ -163,7 +165,7 @@ returns-in-Err-clause-over g c tells log_tells gg checked is =
       };
       left = none_left (RunLeft gg before (g.S.Store.image c.open_store.new.store)) _ c.requires.none;
       rest = tt;
-      named = none_left (λ l. NamesFailed gg l.air.history c.in-Err.fault) _ c.requires.none;
+      named = none_left (λ l. NamesFailed gg l.air.history l.opened c.in-Err.fault) _ c.requires.none;
     }
 
 pub returns-in-Err-clause-cause : goal.returns-in-Err-clause-cause
