@@ -25,7 +25,6 @@ fn joiners_of(asked: &Option<Topology>) -> u8
 
 /// Opens all disks of a store, of so many replicas, over a click log whose last whole line ends at `end`, where what they keep can be run as is asked, or
 /// read where nothing is. Else the store is refused, and gets all its disks back.
-#[tactic(auto, using(crate::proofs::Causes::judged, crate::proofs::Causes::unopened_cause, crate::proofs::Planned::each_calm, crate::proofs::Planned::unfit_early))]
 pub(crate) fn open_for<S: Store, L: LogFile>(
     alloc: Global,
     store: &mut S,
