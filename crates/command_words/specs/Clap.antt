@@ -31,9 +31,9 @@ app_with name options = record { top = shape_with name options; subs = [] }
 abbrev pub shape_of_command : Command → Shape
 shape_of_command c = shape_with (name_of c) (options_of c)
 
--- a command is wanted, and `help` is no command
+-- a command is wanted, and `help` is no command; the version can be asked for
 abbrev pub top_shape : Shape
-top_shape = record (new_shape (codes "photon")) { subcommand_required = true; disable_help_subcommand = true }
+top_shape = record (new_shape (codes "photon")) { subcommand_required = true; disable_help_subcommand = true; has_version = true }
 
 abbrev pub photon_app : App
 photon_app =

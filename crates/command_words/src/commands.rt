@@ -5,7 +5,7 @@ ghost use Rattle.clap.specs.Simple.{app_of, with_subcommand};
 ghost use Rattle.clap.specs.declared.builder.command.Command.TheViews.{out-Command as fields_of};
 ghost use Rattle.command_words.specs.Clap.{app_with, option_in, photon_app, rule_of_option, shape_with};
 
-use crate::options::{BULK, DRILL, Form, JOIN, Opt, RESHARD, VERIFY};
+use crate::options::{BULK, DRILL, Form, JOIN, Opt, RESHARD, VERIFY, VERSION};
 use clap::builder::ValueParser;
 use clap::{Arg, Command};
 use std::alloc::{AllocError, Global};
@@ -61,6 +61,7 @@ pub(crate) fn photon<'a>(alloc: Global) -> Result<Command<'a>, AllocError>
     ensures { IfOk result (λ c. app_of c ≡ photon_app) }
 {
     let line = Command::new(alloc, "photon")
+        .version(VERSION)
         .subcommand_required(true)
         .disable_help_subcommand(true);
     let line = with(

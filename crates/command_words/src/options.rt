@@ -1,5 +1,8 @@
 //! The options of the commands: what the parser is told of, and how values are read.
 
+/// The release, and the kit that builds it, as `rt version` names it.
+pub(crate) const VERSION: &str = "1.0, built by rattle-kit-13f logic dac8208d650f15bf";
+
 /// The most clicks of a bulk run.
 pub(crate) const MOST_CLICKS: u64 = 100_000;
 
