@@ -1,12 +1,14 @@
 """The statuses and texts of docs/GUARANTEES.md ("Statuses and their texts") and docs/GUIDE.md, a case for each."""
 import os
 import shlex
+import shutil
 import subprocess
 
 import fields
 import model
 import runs
 import store as stores
+from case import TOP
 
 JOIN = ["join", "--queries", "queries", "--clicks", "clicks", "--state", "state"]
 DRILL = ["drill", "--queries", "queries", "--clicks", "clicks", "--plan", "plan"]
@@ -28,7 +30,7 @@ def one_line(case):
 # ---- words
 
 REFUSED = {
-    "none": [], "help": ["--help"], "help_of_join": ["join", "--help"], "version": ["--version"], "unknown": ["mend"], "empty": [""],
+    "none": [], "help": ["--help"], "help_of_join": ["join", "--help"], "unknown": ["mend"], "empty": [""],
     "no_options": ["join"], "no_queries": JOIN[:1] + JOIN[3:], "no_clicks": JOIN[:3] + JOIN[5:], "no_state": JOIN[:5],
     "no_plan": DRILL[:5], "no_value": JOIN[:6], "plan_of_join": [*JOIN, "--plan", "plan"], "state_of_drill": [*DRILL, "--state", "state"],
     "queries_of_verify": [*VERIFY, "--queries", "queries"], "horizon_of_verify": [*VERIFY, "--horizon", "1"], "no_seed": BULK[:1] + BULK[3:],
@@ -53,6 +55,16 @@ def refused(words):
         case.check(ended.status == 2 and (ended.err.startswith("error: ") or "Usage: photon" in ended.err) and ended.out == b"", f"status {ended.status}, {ended.err!r}, output {ended.out!r}")
         case.check(not os.path.exists(case.path("state")), "the state directory was touched")
     return run
+
+
+def version(case):
+    """The version is asked for: 2, the program, its release and the kit that builds it, no output."""
+    if shutil.which("rt"):
+        kit = subprocess.run(["rt", "version"], stdout=subprocess.PIPE, text=True, check=True).stdout.strip()
+    else:
+        with open(os.path.join(TOP, "dist", "RELEASE"), encoding="utf-8") as file:
+            kit = dict(line.rstrip().split(": ", 1) for line in file)["kit"]
+    case.expect(["--version"], 2, f"photon 1.0, built by {kit}", b"")
 
 
 TAKEN = {
@@ -236,5 +248,5 @@ def missing(case):
 CASES = [(f"refused.{name}", refused(words)) for name, words in REFUSED.items()]
 CASES += [(f"taken.{name}", taken(*what)) for name, what in TAKEN.items()]
 CASES += [(f"table.{number}", table(text)) for number, text in enumerate(TABLES)]
-CASES += [(function.__name__, function) for function in (unread, queries_first, full_output, shut_output, cut_output, no_directory, no_disk, topology,
+CASES += [(function.__name__, function) for function in (version, unread, queries_first, full_output, shut_output, cut_output, no_directory, no_disk, topology,
                                                          order, last_but_one, missing)]
