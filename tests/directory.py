@@ -132,7 +132,7 @@ class Directory:
     def reshard(self, row):
         """A row behind the table, or its refusal, by the model; whether it was taken. No other record changes, and the report stays the same."""
         before = self.seen or self.read()
-        refused = stores.reshard_refusal(before, row[0])
+        refused = stores.reshard_refusal(before, row[0]) if os.path.isdir(self.case.path(self.state)) else (6, "photon: store: directory")
         out = b"" if refused else model.table_text((*self.rows, row)).encode() + b"\n"
         self.case.expect(self.reshard_words(row), *(refused or (0, "")), out)
         self.resharded(before, None if refused else row)

@@ -291,11 +291,13 @@ def first_last(store):
 # ---- files
 
 def read_files(folder):
-    """The bytes of each file of a directory, by name; none where it isn't there."""
+    """The bytes of each file of a directory, by name; none where it isn't there. What is no file is passed over."""
     if not os.path.isdir(folder):
         return {}
     files = {}
     for name in os.listdir(folder):
+        if not os.path.isfile(os.path.join(folder, name)):
+            continue
         with open(os.path.join(folder, name), "rb") as file:
             files[name] = file.read()
     return files
