@@ -22,6 +22,8 @@ TRAIT = re.compile(r"(?:pub(?:\([^)]*\))? )?(?:unsafe )?trait (\w+)")
 HEAD = re.compile(r"(?:unsafe )?impl\b|" + TRAIT.pattern)
 # What a proof file is told that cites a name which the edit took away.
 NAMES_ONLY = re.compile(r"has no field|is not in scope|has no `|was not admitted|can be named from here")
+# What is told of a function that the prover takes.
+TAKEN = re.compile(r"proved|no holes|depends on a hole")
 LIMIT = 3 * 3600  # seconds for a check; the prover's own limits end it long before
 
 # A function: the head of its impl or trait ("" if free), its first line with attributes, the lines of its head and of its end.
@@ -279,8 +281,7 @@ class Round:
 
     def write_file(self, room, file):
         """Writes a file with the twins behind their functions, and notes where each stands."""
-        made, ends = [], {it.at: it.last for it in self.crate.functions[file]}
-        begun = {}
+        made, begun, ends = [], {}, {it.at: it for it in self.crate.functions[file]}
         for i, line in enumerate(self.texts[file]):
             made.append(line)
             if i in ends:
@@ -290,7 +291,7 @@ class Round:
                 made += ["", *text]
         for key, (_, of, at) in self.asked.items():
             if of == file and at is not None:
-                self.spans[key] = begun[at], begun[at] + ends[at] - at
+                self.spans[key] = begun[at] + ends[at].first - at, begun[at] + ends[at].last - at
         write(f"{room}/{file}", "\n".join(made))
 
     def put_holes(self, room):
@@ -312,9 +313,9 @@ class Round:
         said = re.search(rf"^fn {re.escape('::'.join([self.crate.name, *path]))}: (.*)$", out, re.M)
         if not said:
             return UNTRIED, "no line tells of it"
-        if re.match(r"proved|no holes|depends on a hole", said[1]):
+        if TAKEN.match(said[1]):
             return PASSED, "the prover takes it"
-        if self.is_spoilt(said[1]):
+        if self.is_spoilt(said[1], out):
             return SPOILT, said[1][:160]
         lines = out.splitlines()
         goals = [it for it in lines if (of := re.match(r"note: (?:\./)?(src/\S+?):(\d+):\d+: it is not proved that", it))
@@ -325,9 +326,12 @@ class Round:
             return REFUSED, good[0][:160]
         return UNTRIED, f"refused by names alone: {wrong[0][:160]}" if wrong else said[1][:160]
 
-    def is_spoilt(self, said):
-        """Whether the check goes no further, since what the function calls, or what that calls, is edited in place."""
-        return any(at is not None for *_, at in self.asked.values()) and bool(re.search(r"it calls .*, which (?:is|are) not proved", said))
+    def is_spoilt(self, said, out):
+        """Whether the check goes no further, since what the function calls, or what that calls, is edited in place. A hole is no reason."""
+        calls = re.search(r"it calls (.*), which (?:is|are) not proved", said)
+        named = re.findall(r"`([^`]+)`", calls[1]) if calls else []
+        told = [re.search(rf"^fn {re.escape(it)}: (.*)$", out, re.M) for it in named]
+        return any(at is not None for *_, at in self.asked.values()) and not all(it and TAKEN.match(it[1]) for it in told)
 
 
 def below(needs, name):
