@@ -22,6 +22,8 @@ TRAIT = re.compile(r"(?:pub(?:\([^)]*\))? )?(?:unsafe )?trait (\w+)")
 HEAD = re.compile(r"(?:unsafe )?impl\b|" + TRAIT.pattern)
 # What a proof file is told that cites a name which the edit took away.
 NAMES_ONLY = re.compile(r"has no field|is not in scope|has no `|was not admitted|can be named from here")
+# What is told of an open goal: of a clause or a loop, or of a type's invariant.
+OPEN = re.compile(r"note: (?:\./)?(src/\S+?):(\d+):\d+: (?:it is not proved that|`search` found no proof)")
 # What is told of a function that the prover takes.
 TAKEN = re.compile(r"proved|no holes|depends on a hole")
 LIMIT = 3 * 3600  # seconds for a check; the prover's own limits end it long before
@@ -318,8 +320,7 @@ class Round:
         if self.is_spoilt(said[1], out):
             return SPOILT, said[1][:160]
         lines = out.splitlines()
-        goals = [it for it in lines if (of := re.match(r"note: (?:\./)?(src/\S+?):(\d+):\d+: it is not proved that", it))
-                 and of[1] == file and first <= int(of[2]) <= last]
+        goals = [it for it in lines if (of := OPEN.match(it)) and of[1] == file and first <= int(of[2]) <= last]
         wrong = [it for it in lines if re.match(rf"(\./)?proofs/{re.escape('/'.join(path))}/\S+: error:", it)]
         good = [*goals, *(it for it in wrong if not NAMES_ONLY.search(it))]
         if good and re.match(r"no proof|not proved", said[1]):
