@@ -15,7 +15,7 @@
  *   eio, enospc    the call fails; a write may have written a part, and a sync has lost what was written since the last one
  *   sync           the same of the first sync from there on, with EIO
  *   drop           as sync, and the file reads at once as the disk has it: each byte that was lost is the old one, the new one or any
- *   eintr          the call fails and does nothing
+ *   eintr          the first call from there on that a signal may end, any but rename and unlink, fails and does nothing
  *   short          a write writes a part and says so
  *   lie            a sync says that it was done, and wasn't
  *   power, kill    a write is done, a sync isn't, and the process is killed
@@ -224,8 +224,9 @@ static const char *next_call(const char *what, const char *path, long at, long s
 {
     const char *kind = "";
     for (int i = 0; i < planned && !*kind; i++) {
-        int waits = is(events[i].kind, "sync") || is(events[i].kind, "drop");
-        if (events[i].by == WITH_ALL && events[i].count > 0 && count >= events[i].at && (!waits || strstr(what, "sync"))) {
+        int is_sync = is(events[i].kind, "sync") || is(events[i].kind, "drop");
+        int waits = is_sync ? !strstr(what, "sync") : is(events[i].kind, "eintr") && (is(what, "rename") || is(what, "unlink"));
+        if (events[i].by == WITH_ALL && events[i].count > 0 && count >= events[i].at && !waits) {
             events[i].count--;
             kind = events[i].kind;
         }
