@@ -15,7 +15,7 @@
  *   eio, enospc    the call fails; a write may have written a part, and a sync has lost what was written since the last one
  *   sync           the same of the first sync from there on, with EIO
  *   drop           as sync, and the file reads at once as the disk has it: each byte that was lost is the old one, the new one or any
- *   eintr          the first call from there on that a signal may end, any but rename and unlink, fails and does nothing
+ *   eintr          the call fails and does nothing; but a rename or an unlink, which no signal ends, is made
  *   short          a write writes a part and says so
  *   lie            a sync says that it was done, and wasn't
  *   power, kill    a write is done, a sync isn't, and the process is killed
@@ -224,9 +224,8 @@ static const char *next_call(const char *what, const char *path, long at, long s
 {
     const char *kind = "";
     for (int i = 0; i < planned && !*kind; i++) {
-        int is_sync = is(events[i].kind, "sync") || is(events[i].kind, "drop");
-        int waits = is_sync ? !strstr(what, "sync") : is(events[i].kind, "eintr") && (is(what, "rename") || is(what, "unlink"));
-        if (events[i].by == WITH_ALL && events[i].count > 0 && count >= events[i].at && !waits) {
+        int waits = is(events[i].kind, "sync") || is(events[i].kind, "drop");
+        if (events[i].by == WITH_ALL && events[i].count > 0 && count >= events[i].at && (!waits || strstr(what, "sync"))) {
             events[i].count--;
             kind = events[i].kind;
         }
@@ -433,7 +432,7 @@ int rename(const char *name, const char *to)
         return REAL(rename)(name, to);
     }
     const char *kind = next_call("rename", path, 0, 0);
-    int fault = fault_of(kind);
+    int fault = is(kind, "eintr") ? 0 : fault_of(kind);
     if (!fault && access(path, F_OK) == 0) {
         struct kept *kept = kept_of(path, 0), *before = access(place, F_OK) == 0 ? kept_of(place, 0) : 0;
         kept->name = 0;
@@ -466,7 +465,7 @@ int unlink(const char *name)
         return REAL(unlink)(name);
     }
     const char *kind = next_call("unlink", path, 0, 0);
-    int fault = fault_of(kind);
+    int fault = is(kind, "eintr") ? 0 : fault_of(kind);
     if (!fault && access(path, F_OK) == 0)
         let_go(path);
     if (!fault && REAL(unlink)(name) != 0)
